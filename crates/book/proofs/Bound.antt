@@ -1,0 +1,249 @@
+-- Demand 3 over the book: what is lost is paid for, T - 1 by each claim won and T by each turn that K moves on.
+-- A desk's look is dead if the row it saw can no longer be won. A claim is lost exactly by a dead look, and the desk is then idle.
+-- A win leaves at most T - 1 looks dead, a move of K at most T, and no other step makes a look dead. So for each step
+--   lost + dead + T × K(before) ≤ dead(before) + (T - 1) × won + T × K,
+-- and by adding up for each run, with K ≤ P and exactly T desks throughout.
+use mathlib.Core.Path.{_≡_, refl, ap, _∙_}
+use mathlib.Core.Bool.{not, _&&_}
+use mathlib.Core.List.{List, [], _∷_}
+use Prim.Native.Nat.{ℕ, zero, suc, _+_, _-_, _*_, _/_, _≤_, _<_, zero-le}
+use native.Mathlib.Nat.{mul-le-mul-left, le-trans}
+use native.Mathlib.Omega.{arith}
+use lib.Dec.{T, ltb→lt, nltb→le, nleb→lt}
+use lib.ListN.{length, set, length-replicate, length-set, length-append}
+use Rattle.words.specs.declared.Answer.the-variants.{Refused}
+use Rattle.book.specs.Choice.{if_then_else_, _<ᵇ_, _≤ᵇ_}
+use Rattle.book.specs.Total.{total}
+use Rattle.book.specs.Sizes.{Size, isLabel, isOrder, roundOf, isUsed, currentTurn, isOwned}
+use Rattle.book.specs.Steps.{Step, DeskStep, look, claim, fetch, finish, Deed, put, get, order, desk, unlisted, decode, Desk, idle, looked, claimed, fetched, carried}
+use Rattle.book.specs.Verdicts.{Verdict, judge, stage, column, atStage, noBlock, admitted, lookable, startable, placeable}
+use Rattle.book.specs.Book.{Row, Book, Outcome, says, rowAt, deskAt, withDesk, append, marked, putTurn, rowOf, written, first, waits, isBusy, mayPut, putStep, putMany, orderStep}
+use Rattle.book.specs.Book.{readTurn, getAt, getStep, lookStep, winnable, claimStep, fetchStep, finishStep, taken, deskStep, does, step, opened, answers, after}
+use Rattle.book.specs.Counts.{count, won, lost, bound}
+use Rattle.book.specs.Demands.{Placed, Bounded}
+use Rattle.book.proofs.Choice.{by-test, cases, T→true, not→false, and-first, and-second, lt→true}
+use Rattle.book.proofs.Total.{total-set, total-mono, total-le, total-below, total-replicate}
+use Rattle.book.proofs.Turns.{div-mono}
+use Rattle.book.proofs.Counting.{placed-rows}
+use Rattle.book.proofs.Rows.{row-turn, first-fits, first-waits, read-from, read-to, row-append, mark-length, mark-other}
+
+module _ (z : Size) where
+  -- ---- dead looks, and what is paid
+
+  abbrev deadBy : List Row → ℕ → Desk ℕ → ℕ
+  deadBy rs k idle = 0
+  deadBy rs k (looked r) = if winnable z rs k r then 0 else 1
+  deadBy rs k (claimed r) = 0
+  deadBy rs k (fetched r) = 0
+
+  abbrev dead : Book → ℕ
+  dead b = total (deadBy (b .rows) (b .k)) (b .desks)
+
+  record Fit (b : Book) : Type 0 where
+    many : length (b .desks) ≡ z .t
+    reached : b .k ≤ putTurn z (b .rows)
+
+  -- what a step or a run from book b to book c pays for
+  record Paid (b c : Book) (lost won : ℕ) : Type 0 where
+    fit : Fit c
+    paid : lost + dead c + z .t * b .k ≤ dead b + (z .t - 1) * won + z .t * c .k
+
+  -- a step with outcome o; and a step by verdict: o where it takes, else a refusal with value n
+  abbrev Pays : Book → Outcome → Type 0
+  Pays b o = Paid b (o .book) ((count (o .answer)) .lost) ((count (o .answer)) .won)
+
+  abbrev Judged : Book → Outcome → ℕ → Verdict → Type 0
+  Judged b o n v = Pays b (judge v o (λ w. says b (Refused w n)))
+
+  dead-one : (rs : List Row) (k : ℕ) (x : Desk ℕ) → deadBy rs k x ≤ 1
+  dead-one rs k idle = zero-le
+  dead-one rs k (looked r) = by-test (λ n. n ≤ 1) (winnable z rs k r) (λ _. omega arith) (λ _. omega arith)
+  dead-one rs k (claimed r) = zero-le
+  dead-one rs k (fetched r) = zero-le
+
+  -- where each row that could be won still can, no more looks are dead
+  module _ (rs qs : List Row) (k : ℕ) (keep : (r : ℕ) → T (winnable z rs k r) → T (winnable z qs k r)) where
+    dead-less : (x : Desk ℕ) → deadBy qs k x ≤ deadBy rs k x
+    dead-less idle = zero-le
+    dead-less (looked r) =
+        by-test (λ n. deadBy qs k (looked r) ≤ n) (winnable z rs k r)
+        (λ t. rw (T→true (winnable z qs k r) (keep r t)) zero-le) (λ _. dead-one qs k (looked r))
+    dead-less (claimed r) = zero-le
+    dead-less (fetched r) = zero-le
+
+    dead-kept : (l : List (Desk ℕ)) → total (deadBy qs k) l ≤ total (deadBy rs k) l
+    dead-kept = total-mono (deadBy qs k) (deadBy rs k) dead-less
+
+  module _ (b : Book) (f : Fit b) where
+    -- a refusal other than LOST
+    stays : Paid b b 0 0
+    stays = record { fit = f; paid = omega arith }
+
+    -- ---- get: K moves on, perhaps by no turn, and the row that is marked is of turn K, where no claim is won
+
+    moves : (rs : List Row) (t : ℕ) → b .k ≤ t → t ≤ putTurn z rs → ((r : ℕ) → T (winnable z (b .rows) t r) → T (winnable z rs t r))
+        → Paid b (record { rows = rs; k = t; desks = b .desks }) 0 0
+    moves rs t h l keep = record {
+      fit = record { many = f .many; reached = l };
+      paid =
+          cases (b .k <ᵇ t)
+          (λ s. omega (arith, total-le (deadBy rs t) (dead-one rs t) (b .desks), mul-le-mul-left (z .t) (ltb→lt (b .k) t s)))
+          (λ s. let e : b .k ≡ t = omega (arith, nltb→le (b .k) t s) in rw e (omega (arith, dead-kept (b .rows) rs t keep (b .desks))));
+    }
+
+    mark-keeps : (n t : ℕ) → n / z .ne ≡ t → (r : ℕ) → T (winnable z (b .rows) t r) → T (winnable z (marked (b .rows) n) t r)
+    unfolding winnable
+    mark-keeps n t e r w =
+        let above = ltb→lt t (r / z .ne) (and-second (not ((rowAt (b .rows) r) .gone)) (t <ᵇ r / z .ne) w) in
+        rw (mark-other (b .rows) n r (λ q. omega (arith, ap (λ (m : ℕ). m / z .ne) q))) w
+
+    get-at-paid : (t : ℕ) → b .k ≤ t → t ≤ putTurn z (b .rows) → Pays b (getAt z b t)
+    unfolding getAt putTurn
+    get-at-paid t h l =
+        let place = first z (b .rows) t in
+        by-test (Pays b) (waits z (b .rows) t)
+        (λ w. moves (marked (b .rows) (rowOf z t place)) t h (rw mark-length l) (mark-keeps (rowOf z t place) t (row-turn z t place (first-fits z (b .rows) t w))))
+        (λ _. moves (b .rows) t h l (λ r w. w))
+
+    get-paid : Pays b (getStep z b)
+    unfolding getStep
+    get-paid =
+        let n = putTurn z (b .rows) - b .k in
+        get-at-paid (readTurn z n (b .rows) (b .k)) (read-from z n (b .rows) (b .k)) (omega (arith, read-to z n (b .rows) (b .k)))
+
+    -- ---- the steps of desk d
+
+    module _ (d : ℕ) (h : d < z .t) where
+      -- desk d becomes x: a dead look that it gives up pays for a claim lost
+      changes : (x : Desk ℕ) (lost : ℕ) → lost + deadBy (b .rows) (b .k) x ≤ deadBy (b .rows) (b .k) (deskAt b d) → Paid b (withDesk b d x) lost 0
+      changes x lost l = record {
+        fit = record { many = length-set (b .desks) d x ∙ f .many; reached = f .reached };
+        paid = omega (arith, total-set (deadBy (b .rows) (b .k)) (b .desks) d x idle (omega arith));
+      }
+
+      -- the row that a look sees waits, and its turn is above K: the look is not dead
+      sees : (t : ℕ) → b .k < t → T (waits z (b .rows) t) → Paid b (withDesk b d (looked (rowOf z t (first z (b .rows) t)))) 0 0
+      unfolding winnable
+      sees t l w =
+          let place = first z (b .rows) t in
+          changes (looked (rowOf z t place)) 0 (rw (first-waits z (b .rows) t w, row-turn z t place (first-fits z (b .rows) t w), lt→true (b .k) t l) zero-le)
+
+      look-paid : (i : ℕ) → Pays b (lookStep z b d i)
+      unfolding lookStep lookable isOwned
+      look-paid i =
+          let p = putTurn z (b .rows) in
+          let t = currentTurn z p i in
+          by-test (Judged b _ 0) (isOwned z p (b .k) i) (λ _. stays) (λ o.
+          by-test (Judged b _ 0) (isUsed z p i && waits z (b .rows) t)
+          (λ w. sees t (nleb→lt t (b .k) (rw (T→true (isUsed z p i) (and-first (isUsed z p i) (waits z (b .rows) t) w)) at o)) (and-second (isUsed z p i) (waits z (b .rows) t) w))
+          (λ _. stays))
+
+      -- the desk that wins has no look, so at most T - 1 are dead
+      wins : (r : ℕ) → Paid b (record { rows = marked (b .rows) r; k = b .k; desks = set (b .desks) d (claimed r) }) 0 1
+      unfolding putTurn
+      wins r =
+          let rs = marked (b .rows) r in
+          record {
+            fit = record { many = length-set (b .desks) d (claimed r) ∙ f .many; reached = rw mark-length (f .reached) };
+            paid = omega (arith, total-below (deadBy rs (b .k)) (dead-one rs (b .k)) (b .desks) d (claimed r) (omega arith) refl);
+          }
+
+      claim-paid : (r : ℕ) → deskAt b d ≡ looked r → Pays b (claimStep z b d r)
+      unfolding claimStep
+      claim-paid r e =
+          by-test (Pays b) (winnable z (b .rows) (b .k) r) (λ _. wins r)
+          (λ n. changes idle 1 (rw (e, not→false (winnable z (b .rows) (b .k) r) n) (omega arith)))
+
+      -- the grid, a stage at a time
+      at-stage : (x : Desk ℕ) (s : DeskStep) → deskAt b d ≡ x → Judged b (taken z b d (carried 0 x) s) 0 (atStage (stage x) (column s))
+      unfolding taken fetchStep finishStep
+      at-stage idle (look i) e = look-paid i
+      at-stage idle claim e = stays
+      at-stage idle fetch e = stays
+      at-stage idle finish e = stays
+      at-stage (looked r) (look i) e = look-paid i
+      at-stage (looked r) claim e = claim-paid r e
+      at-stage (looked r) fetch e = stays
+      at-stage (looked r) finish e = stays
+      at-stage (claimed r) (look i) e = stays
+      at-stage (claimed r) claim e = stays
+      at-stage (claimed r) fetch e = changes (fetched r) 0 zero-le
+      at-stage (claimed r) finish e = stays
+      at-stage (fetched r) (look i) e = stays
+      at-stage (fetched r) claim e = stays
+      at-stage (fetched r) fetch e = stays
+      at-stage (fetched r) finish e = changes idle 0 zero-le
+
+    desk-paid : (d : ℕ) (s : DeskStep) → Pays b (deskStep z b d s (deskAt b d))
+    unfolding deskStep admitted
+    desk-paid d s =
+        by-test (Judged b _ 0) (z .t ≤ᵇ d) (λ _. stays) (λ t.
+        by-test (Judged b _ 0) (noBlock z s) (λ _. stays) (λ _. at-stage d (nleb→lt (z .t) d t) (deskAt b d) s refl))
+
+    -- ---- put and order: no refusal of a put is LOST, and one more row makes no look dead
+
+    fit-append : (a : ℕ) → Fit (append b a)
+    unfolding putTurn
+    fit-append a = record { many = f .many; reached = le-trans (f .reached) (div-mono (z .ne) (simp length-append (omega arith))) }
+
+    append-keeps : (a r : ℕ) → T (winnable z (b .rows) (b .k) r) → T (winnable z ((append b a) .rows) (b .k) r)
+    unfolding winnable
+    append-keeps a r w = rw (row-append (b .rows) a r) w
+
+    -- what is paid for from the book with one more row is paid for from the book before it
+    places : (a n : ℕ) (o : Outcome) → Pays (append b a) o → Judged b o n (mayPut z b a)
+    unfolding mayPut placeable startable
+    places a n o p =
+        let P = Judged b o n in
+        let next = putTurn z (b .rows) + 1 in
+        let q : Pays b o = record { fit = p .fit; paid = omega (arith, dead-kept (b .rows) ((append b a) .rows) (b .k) (append-keeps a) (b .desks)) } in
+        by-test P (not (isLabel a)) (λ _. stays) (λ _.
+        by-test P (written z (b .rows) (putTurn z (b .rows)) <ᵇ z .ne) (λ _. q) (λ _.
+        by-test P (65536 ≤ᵇ roundOf z next) (λ _. stays) (λ _.
+        by-test P (next <ᵇ z .nb) (λ _. q) (λ _.
+        by-test P (b .k ≤ᵇ next - z .nb) (λ _. stays) (λ _.
+        by-test P (isBusy z b (next - z .nb)) (λ _. stays) (λ _. q))))))
+
+  put-paid : (b : Book) (a : ℕ) → Fit b → Pays b (putStep z b a)
+  unfolding putStep
+  put-paid b a f = places b f a 0 _ (stays (append b a) (fit-append b f a))
+
+  many-paid : (n : ℕ) (b : Book) (a c : ℕ) → Fit b → Pays b (putMany z n b a c)
+  unfolding putMany
+  many-paid zero b a c f = stays b f
+  many-paid (suc n) b a c f = places b f a c _ (many-paid n (append b a) (suc a) (suc c) (fit-append b f a))
+
+  order-paid : (b : Book) (a e : ℕ) → Fit b → Pays b (orderStep z b a e)
+  unfolding orderStep
+  order-paid b a e f = by-test (Pays b) (isOrder a e) (λ _. many-paid (suc e - a) b a 0 f) (λ _. stays b f)
+
+  -- ---- every step, and every run
+
+  deed-paid : (b : Book) (s : Deed) → Fit b → Pays b (does z b s)
+  unfolding does
+  deed-paid b (put a) f = put-paid b a f
+  deed-paid b get f = get-paid b f
+  deed-paid b (order a e) f = order-paid b a e f
+  deed-paid b (desk d s) f = desk-paid b f d s
+  deed-paid b unlisted f = stays b f
+
+  run-paid : (b : Book) (ss : List Step) → Fit b → Paid b (after z b ss) (lost (answers z b ss)) (won (answers z b ss))
+  unfolding answers after step total
+  run-paid b [] f = stays b f
+  run-paid b (s ∷ ss) f =
+      let p = deed-paid b (decode s) f in
+      let r = run-paid ((step z b s) .book) ss (p .fit) in
+      record { fit = r .fit; paid = omega arith }
+
+pub lost-bound : (z : Size) (ss : List Step)
+    → let l = answers z (opened z) ss in
+    lost l ≤ (z .t - 1) * won l + z .t * putTurn z ((after z (opened z) ss) .rows)
+unfolding opened
+lost-bound z ss =
+    let r = run-paid z (opened z) ss (record { many = length-replicate (z .t) idle; reached = zero-le }) in
+    omega (arith, total-replicate (deadBy z [] 0) (z .t) idle refl, mul-le-mul-left (z .t) (r .fit .reached))
+
+-- the rows of the book are the labels placed
+pub bounded : Bounded
+unfolding Bounded Placed bound putTurn
+bounded z ss = rw (placed-rows z ss) at (lost-bound z ss)

@@ -1,0 +1,318 @@
+-- Counting: labels placed = got + fetched + claimed but unfetched + waiting, and no row's label leaves twice.
+-- For every row: the times it left + the desks that hold it unfetched = 1 if it is gone, and 0 if it waits or is not yet
+-- placed. So it left at most once; and summed over the rows, left + held = gone, which is placed - waiting.
+-- Both are one law, `tallied`, of two tallies. `Kept` says what a step keeps, the labels of proofs/Handed.antt among it:
+-- one lemma for each kind of change, one for each step, then every run.
+use mathlib.Core.Path.{_≡_, refl, sym, ap, ap₂, _∙_}
+use mathlib.Core.Bool.{Bool, true, false, not, _&&_}
+use mathlib.Core.List.{List, [], _∷_, _++_, map, map-append}
+use Prim.Native.Nat.{ℕ, zero, suc, _+_, _-_, _*_, _/_, _≤_, _<_}
+use native.Mathlib.Omega.{arith}
+use lib.Dec.{eqb, eqb→eq, nleb→lt}
+use lib.ListN.{length, getD, set, length-replicate, length-set, length-append, List·getD-append}
+use lib.Seq.{getD-set-same, getD-set-other}
+use Rattle.book.specs.Choice.{if_then_else_, _<ᵇ_, _≤ᵇ_, _≡ᵇ_}
+use Rattle.book.specs.Total.{total}
+use Rattle.book.specs.Sizes.{Size, isOrder, isUsed, isOwned, currentTurn}
+use Rattle.book.specs.Steps.{Step, DeskStep, look, claim, fetch, finish, Deed, put, get, order, desk, unlisted, decode, Desk, idle, looked, claimed, fetched, carried}
+use Rattle.book.specs.Verdicts.{Verdict, judge, stage, column, atStage, noBlock, admitted, lookable}
+use Rattle.book.specs.Book.{Row, Book, Outcome, refuse, rowAt, deskAt, withDesk, append, marked, putTurn, rowOf, first, waits, mayPut, putStep, putMany, orderStep, readTurn}
+use Rattle.book.specs.Book.{getAt, getStep, lookStep, winnable, claimStep, fetchStep, finishStep, taken as deskTakes, deskStep, does, step, opened, answers, after, leaves}
+use Rattle.book.specs.Counts.{count, placed, got, taken, unfetchedBy, waitsBy, labelsOf, handed}
+use Rattle.book.specs.Demands.{Counting, Placed, NeverTwice}
+use Rattle.book.proofs.Choice.{by-test, by-verdict, cases, T→true, not→false, and-first, and-second, neq-test, eqb-same}
+use Rattle.book.proofs.Total.{total-append, total-set, total-cong, total-replicate, replicate-at}
+use Rattle.book.proofs.Rows.{first-waits, first-in, row-append, mark-length, mark-other, mark-same, mark-label}
+
+-- ---- the tallies: every row alike, and one row alone
+
+-- a weight for each row, and what the gone rows weigh together: a mark adds its row's weight, one more row nothing
+pub record Tally : Type 0 where
+  pub weight : ℕ → ℕ
+  pub gone : List Row → ℕ
+  pub mark : (rs : List Row) (m : ℕ) → m < length rs → (rowAt rs m) .gone ≡ false → gone (marked rs m) ≡ gone rs + weight m
+  pub more : (rs : List Row) (a : ℕ) → gone (rs ++ (record { label = a; gone = false } ∷ [])) ≡ gone rs
+
+abbrev goneBy : Row → ℕ
+goneBy r = if r .gone then 1 else 0
+
+abbrev pub one : ℕ → ℕ
+one n = 1
+
+every : Tally
+unfolding marked total
+every = record {
+  weight = one;
+  gone = total goneBy;
+  mark = λ rs m h w.
+      let set-one = total-set goneBy rs m (record { label = (rowAt rs m) .label; gone = true }) (record { label = 0; gone = false }) h in
+      omega (arith, ap {B = ℕ} (λ (g : Bool). if g then 1 else 0) w);
+  more = λ rs a. omega (arith, total-append goneBy rs (record { label = a; gone = false } ∷ []));
+}
+
+gone-waiting : (rs : List Row) → total goneBy rs + total waitsBy rs ≡ length rs
+unfolding total
+gone-waiting [] = refl
+gone-waiting (r ∷ rs) =
+    let h = gone-waiting rs in cases (r .gone) (λ t. rw (T→true (r .gone) t) (omega arith)) (λ t. rw (not→false (r .gone) t) (omega arith))
+
+only : ℕ → Tally
+only n = record {
+  weight = λ r. if r ≡ᵇ n then 1 else 0;
+  gone = λ rs. goneBy (rowAt rs n);
+  mark = λ rs m h w.
+      cases (eqb m n)
+      (λ t. rw (← (eqb→eq m n t), mark-same rs m h, w, eqb-same m) refl)
+      (λ t. rw (mark-other rs m n (λ e. neq-test m n t (sym e)), not→false (eqb m n) t) (omega arith));
+  more = λ rs a. rw (row-append rs a n) refl;
+}
+
+-- ---- what a step keeps
+
+-- the least length of a list with the desk's row on it
+abbrev pub reach : Desk ℕ → ℕ
+reach idle = 0
+reach (looked r) = suc r
+reach (claimed r) = suc r
+reach (fetched r) = suc r
+
+-- the weight of the row that a desk holds unfetched, and of all those
+abbrev pub heldBy : (ℕ → ℕ) → Desk ℕ → ℕ
+heldBy w x = unfetchedBy x * w (carried 0 x)
+
+abbrev pub held : (ℕ → ℕ) → List (Desk ℕ) → ℕ
+held w ds = total (heldBy w) ds
+
+-- f gives the label of every row on the list
+abbrev pub Reads : (ℕ → ℕ) → List Row → Type 0
+Reads f rs = (n : ℕ) → n < length rs → f n ≡ (rowAt rs n) .label
+
+-- the g labels ls are those of the rows l
+pub record Hands (rs : List Row) (g : ℕ) (ls l : List ℕ) : Type 0 where
+  pub many : total one l ≡ g
+  pub labels : (f : ℕ → ℕ) → Reads f rs → ls ≡ map f l
+
+none : (rs : List Row) → Hands rs 0 [] []
+unfolding total
+none rs = record { many = refl; labels = λ f r. refl }
+
+single : (rs : List Row) (n : ℕ) → n < length rs → Hands rs 1 ((rowAt rs n) .label ∷ []) (n ∷ [])
+unfolding total
+single rs n h = record { many = refl; labels = λ f r. ap (λ (v : ℕ). v ∷ []) (sym (r n h)) }
+
+module _ (z : Size) where
+  -- the desks are T, and their rows are on the list
+  pub record Fair (rs : List Row) (ds : List (Desk ℕ)) : Type 0 where
+    pub many : length ds ≡ z .t
+    pub within : (d : ℕ) → reach (getD ds d idle) ≤ length rs
+
+  -- from book b to book c, where an order's count is k before and p after: the g labels ls of the rows l leave
+  pub record Kept (b : Book) (k : ℕ) (c : Book) (p g : ℕ) (ls l : List ℕ) : Type 0 where
+    pub fair : Fair (c .rows) (c .desks)
+    -- a row for each label placed
+    pub grown : length (c .rows) + k ≡ length (b .rows) + p
+    -- what left and what desks hold unfetched weighs as much as what is gone
+    pub tallied : (y : Tally) → total (y .weight) l + held (y .weight) (c .desks) + y .gone (b .rows) ≡ held (y .weight) (b .desks) + y .gone (c .rows)
+    -- a row on the list keeps its label
+    pub reads : (f : ℕ → ℕ) → Reads f (c .rows) → Reads f (b .rows)
+    pub hands : Hands (c .rows) g ls l
+
+  -- what a step's outcome owes
+  abbrev Owes : ℕ → Book → Outcome → Type 0
+  Owes k b o = let n = count (o .answer) in Kept b k (o .book) (n .placed) (n .got + n .fetched) (labelsOf (o .answer)) (o .left)
+
+  -- ---- the kinds of change: of desks alone, a mark, one more row
+
+  of-desks : (b : Book) (t k : ℕ) (ds : List (Desk ℕ)) {g : ℕ} {ls l : List ℕ} → Fair (b .rows) ds → Hands (b .rows) g ls l
+      → ((w : ℕ → ℕ) → total w l + held w ds ≡ held w (b .desks)) → Kept b k (record { rows = b .rows; k = t; desks = ds }) k g ls l
+  of-desks b t k ds f h e = record { fair = f; grown = refl; tallied = λ y. omega (arith, e (y .weight)); reads = λ f r. r; hands = h }
+
+  of-mark : (b : Book) (m t k : ℕ) (ds : List (Desk ℕ)) {g : ℕ} {ls l : List ℕ} → m < length (b .rows) → (rowAt (b .rows) m) .gone ≡ false
+      → Fair (b .rows) ds → Hands (b .rows) g ls l → ((w : ℕ → ℕ) → total w l + held w ds ≡ held w (b .desks) + w m)
+      → Kept b k (record { rows = marked (b .rows) m; k = t; desks = ds }) k g ls l
+  of-mark b m t k ds i w f h e =
+      let long = mark-length (b .rows) m in
+      let reads : (f : ℕ → ℕ) → Reads f (marked (b .rows) m) → Reads f (b .rows) = λ f r n j. r n (omega arith) ∙ mark-label (b .rows) m n i in
+      record {
+        fair = record { many = f .many; within = λ d. omega (arith, f .within d) };
+        grown = omega arith;
+        tallied = λ y. omega (arith, y .mark (b .rows) m i w, e (y .weight));
+        reads = reads;
+        hands = record { many = h .many; labels = λ f r. h .labels f (reads f r) };
+      }
+
+  of-append : (b : Book) (a k : ℕ) → Fair (b .rows) (b .desks) → Kept b k (append b a) (suc k) 0 [] []
+  unfolding total
+  of-append b a k f =
+      let long = length-append (b .rows) (record { label = a; gone = false } ∷ []) in
+      record {
+        fair = record { many = f .many; within = λ d. omega (arith, f .within d) };
+        grown = omega arith;
+        tallied = λ y. omega (arith, y .more (b .rows) a);
+        reads = λ f r n h. r n (omega arith) ∙ ap (λ (x : Row). x .label) (List·getD-append (b .rows) _ _ n h);
+        hands = none ((append b a) .rows);
+      }
+
+  -- a refusal, or an order's end: at most K changes
+  stays : (b : Book) (t k : ℕ) → Fair (b .rows) (b .desks) → Kept b k (record { rows = b .rows; k = t; desks = b .desks }) k 0 [] []
+  unfolding total
+  stays b t k f = of-desks b t k (b .desks) f (none (b .rows)) (λ w. omega arith)
+
+  -- ---- put, order, get
+
+  many-kept : (n : ℕ) (b : Book) (a k : ℕ) → Fair (b .rows) (b .desks) → Owes k b (putMany z n b a k)
+  unfolding putMany total
+  many-kept zero b a k f = stays b (b .k) k f
+  many-kept (suc n) b a k f =
+      by-verdict (Owes k b) (mayPut z b a)
+      (λ _. let p = of-append b a k f in
+      let r = many-kept n (append b a) (suc a) (suc k) (p .fair) in
+      record { fair = r .fair; grown = omega arith; tallied = λ y. omega (arith, p .tallied y, r .tallied y); reads = λ f q. p .reads f (r .reads f q); hands = r .hands })
+      (λ w _. stays b (b .k) k f)
+
+  module _ (b : Book) (f : Fair (b .rows) (b .desks)) where
+    refused : Kept b 0 b 0 0 [] []
+    refused = stays b (b .k) 0 f
+
+    put-kept : (a : ℕ) → Owes 0 b (putStep z b a)
+    unfolding putStep
+    put-kept a = by-verdict (Owes 0 b) (mayPut z b a) (λ _. of-append b a 0 f) (λ w _. refused)
+
+    order-kept : (a e : ℕ) → Owes 0 b (orderStep z b a e)
+    unfolding orderStep
+    order-kept a e = by-test (Owes 0 b) (isOrder a e) (λ _. many-kept (suc e - a) b a 0 f) (λ _. refused)
+
+    get-kept : (t : ℕ) → Owes 0 b (getAt z b t)
+    unfolding getAt total
+    get-kept t =
+        by-test (Owes 0 b) (waits z (b .rows) t)
+        (λ w. let i = first-in z (b .rows) t w in of-mark b _ t 0 (b .desks) i (first-waits z (b .rows) t w) f (single (b .rows) _ i) (λ w. omega arith))
+        (λ _. stays b t 0 f)
+
+    -- ---- the steps of desk d
+
+    abbrev Judged : Outcome → Verdict → Type 0
+    Judged o v = Owes 0 b (judge v o (refuse b))
+
+    module _ (d : ℕ) (h : d < z .t) where
+      fair-set : (y : Desk ℕ) → reach y ≤ length (b .rows) → Fair (b .rows) (set (b .desks) d y)
+      fair-set y i = record {
+        many = length-set (b .desks) d y ∙ f .many;
+        within = λ c.
+            cases (eqb c d)
+            (λ t. rw (eqb→eq c d t, getD-set-same (b .desks) d y idle (omega arith)) i)
+            (λ t. rw (getD-set-other (b .desks) d c y idle (neq-test c d t)) (f .within c));
+      }
+
+      -- the desk becomes y, and no row changes
+      becomes : (y : Desk ℕ) {g : ℕ} {ls l : List ℕ} → reach y ≤ length (b .rows) → Hands (b .rows) g ls l
+          → ((w : ℕ → ℕ) → total w l + heldBy w y ≡ heldBy w (deskAt b d)) → Kept b 0 (withDesk b d y) 0 g ls l
+      becomes y i g o = of-desks b (b .k) 0 (set (b .desks) d y) (fair-set y i) g (λ w. omega (arith, total-set (heldBy w) (b .desks) d y idle (omega arith), o w))
+
+      look-kept : (i : ℕ) → unfetchedBy (deskAt b d) ≡ 0 → Owes 0 b (lookStep z b d i)
+      unfolding lookStep lookable total
+      look-kept i u =
+          let p = putTurn z (b .rows) in
+          let t = currentTurn z p i in
+          by-test (Judged _) (isOwned z p (b .k) i) (λ _. refused) (λ _.
+          by-test (Judged _) (isUsed z p i && waits z (b .rows) t)
+          (λ v. becomes (looked (rowOf z t (first z (b .rows) t))) (first-in z (b .rows) t (and-second (isUsed z p i) (waits z (b .rows) t) v)) (none (b .rows)) (λ w. rw u (omega arith)))
+          (λ _. refused))
+
+      claim-kept : (r : ℕ) → deskAt b d ≡ looked r → Owes 0 b (claimStep z b d r)
+      unfolding claimStep winnable total
+      claim-kept r e =
+          let i : r < length (b .rows) = rw e at (f .within d) in
+          let g = (rowAt (b .rows) r) .gone in
+          by-test (Owes 0 b) (winnable z (b .rows) (b .k) r)
+          (λ t. of-mark b r (b .k) 0 (set (b .desks) d (claimed r)) i (not→false g (and-first (not g) (b .k <ᵇ r / z .ne) t)) (fair-set (claimed r) i) (none (b .rows))
+          (λ w. omega (arith, total-set (heldBy w) (b .desks) d (claimed r) idle (omega arith), ap (heldBy w) e)))
+          (λ _. becomes idle (omega arith) (none (b .rows)) (λ w. rw e (omega arith)))
+
+      fetch-kept : (r : ℕ) → deskAt b d ≡ claimed r → Owes 0 b (fetchStep z b d r)
+      unfolding fetchStep total
+      fetch-kept r e = let i : r < length (b .rows) = rw e at (f .within d) in becomes (fetched r) i (single (b .rows) r i) (λ w. rw e (omega arith))
+
+      finish-kept : (r : ℕ) → deskAt b d ≡ fetched r → Owes 0 b (finishStep z b d)
+      unfolding finishStep total
+      finish-kept r e = becomes idle (omega arith) (none (b .rows)) (λ w. rw e (omega arith))
+
+      -- of the grid's 16, five are taken
+      grid-kept : (x : Desk ℕ) (s : DeskStep) → deskAt b d ≡ x → Judged (deskTakes z b d (carried 0 x) s) (atStage (stage x) (column s))
+      unfolding deskTakes
+      grid-kept idle (look i) e = look-kept i (ap unfetchedBy e)
+      grid-kept idle claim e = refused
+      grid-kept idle fetch e = refused
+      grid-kept idle finish e = refused
+      grid-kept (looked r) (look i) e = look-kept i (ap unfetchedBy e)
+      grid-kept (looked r) claim e = claim-kept r e
+      grid-kept (looked r) fetch e = refused
+      grid-kept (looked r) finish e = refused
+      grid-kept (claimed r) (look i) e = refused
+      grid-kept (claimed r) claim e = refused
+      grid-kept (claimed r) fetch e = fetch-kept r e
+      grid-kept (claimed r) finish e = refused
+      grid-kept (fetched r) (look i) e = refused
+      grid-kept (fetched r) claim e = refused
+      grid-kept (fetched r) fetch e = refused
+      grid-kept (fetched r) finish e = finish-kept r e
+
+    desk-kept : (d : ℕ) (s : DeskStep) → Owes 0 b (deskStep z b d s (deskAt b d))
+    unfolding deskStep admitted
+    desk-kept d s =
+        by-test (Judged _) (z .t ≤ᵇ d) (λ _. refused) (λ t. by-test (Judged _) (noBlock z s) (λ _. refused) (λ _. grid-kept d (nleb→lt (z .t) d t) (deskAt b d) s refl))
+
+    -- ---- every step, every run
+
+    does-kept : (s : Deed) → Owes 0 b (does z b s)
+    unfolding does getStep
+    does-kept (put a) = put-kept a
+    does-kept get = get-kept (readTurn z (putTurn z (b .rows) - b .k) (b .rows) (b .k))
+    does-kept (order a e) = order-kept a e
+    does-kept (desk d s) = desk-kept d s
+    does-kept unlisted = refused
+
+  abbrev pub Run : Book → List Step → Type 0
+  Run b ss = let l = answers z b ss in Kept b 0 (after z b ss) (placed l) (got l + taken l) (handed l) (leaves z b ss)
+
+  run-kept : (b : Book) (ss : List Step) → Fair (b .rows) (b .desks) → Run b ss
+  unfolding answers after leaves step total handed
+  run-kept b [] f = stays b (b .k) 0 f
+  run-kept b (s ∷ ss) f =
+      let p = does-kept b f (decode s) in
+      let c = (step z b s) .book in
+      let r = run-kept c ss (p .fair) in
+      record {
+        fair = r .fair;
+        grown = omega arith;
+        tallied = λ y. omega (arith, total-append (y .weight) ((step z b s) .left) (leaves z c ss), p .tallied y, r .tallied y);
+        reads = λ f q. p .reads f (r .reads f q);
+        hands = record {
+          many = omega (arith, total-append one ((step z b s) .left) (leaves z c ss));
+          labels = λ f q. ap₂ _++_ (p .hands .labels f (r .reads f q)) (r .hands .labels f q) ∙ sym (map-append f ((step z b s) .left) (leaves z c ss));
+        };
+      }
+
+  -- ---- from opening
+
+  pub opened-kept : (ss : List Step) → Run (opened z) ss
+  unfolding opened
+  opened-kept ss = run-kept (opened z) ss (record { many = length-replicate (z .t) idle; within = λ d. omega (arith, ap reach (replicate-at (z .t) d idle)) })
+
+pub counting : Counting
+unfolding Counting opened every total
+counting z ss =
+    let b = after z (opened z) ss in
+    let r = opened-kept z ss in
+    let same = total-cong (heldBy one) unfetchedBy (λ x. omega arith) (b .desks) in
+    omega (arith, r .grown, r .tallied every, r .hands .many, total-replicate (heldBy one) (z .t) idle refl, gone-waiting (b .rows))
+
+pub placed-rows : Placed
+unfolding Placed opened
+placed-rows z ss = omega (arith, (opened-kept z ss) .grown)
+
+pub never-twice : NeverTwice
+unfolding NeverTwice opened only
+never-twice z ss n =
+    let most = by-test {A = ℕ} (λ m. m ≤ 1) ((rowAt ((after z (opened z) ss) .rows) n) .gone) {x = 1} {y = 0} (λ _. omega arith) (λ _. omega arith) in
+    omega (arith, (opened-kept z ss) .tallied (only n), total-replicate (heldBy ((only n) .weight)) (z .t) idle (omega arith))

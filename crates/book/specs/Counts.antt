@@ -1,0 +1,88 @@
+-- What is counted: from the answers of a run, and in the book after it.
+use mathlib.Core.Bool.{not}
+use mathlib.Core.List.{List, [], _∷_, _++_}
+use Prim.Native.Nat.{ℕ, _+_, _-_, _*_, _/_}
+use Rattle.words.specs.declared.Answer.{Answer}
+use Rattle.words.specs.declared.Answer.the-variants.{Put, Got, Took, Whole, Seen, Claimed, Done, Refused}
+use Rattle.words.specs.Words.{said}
+use Rattle.book.specs.Choice.{if_then_else_, _≡ᵇ_}
+use Rattle.book.specs.Total.{total}
+use Rattle.book.specs.Sizes.{Size}
+use Rattle.book.specs.Steps.{Desk, idle, looked, claimed, fetched}
+use Rattle.book.specs.Book.{Row, Book}
+
+-- what one answer adds: labels placed, got and fetched, claims won and lost
+pub record Count : Type 0 where
+  pub placed : ℕ
+  pub got : ℕ
+  pub fetched : ℕ
+  pub won : ℕ
+  pub lost : ℕ
+
+abbrev row : ℕ → ℕ → ℕ → ℕ → ℕ → Count
+row p g f w l = record { placed = p; got = g; fetched = f; won = w; lost = l }
+
+-- A refusal's value is an order's count, or 0; LOST is the refusal of number 9.
+abbrev pub count : Answer → Count
+count (Put label) = row 1 0 0 0 0
+count (Got label) = row 0 1 0 0 0
+count (Took label) = row 0 0 1 0 0
+count (Whole n) = row n 0 0 0 0
+count (Seen place) = row 0 0 0 0 0
+count (Claimed place) = row 0 0 0 1 0
+count Done = row 0 0 0 0 0
+count (Refused w n) = row n 0 0 0 (if (said (Refused w n)) .number ≡ᵇ 9 then 1 else 0)
+
+abbrev pub placed : List Answer → ℕ
+placed l = total (λ a. (count a) .placed) l
+
+abbrev pub got : List Answer → ℕ
+got l = total (λ a. (count a) .got) l
+
+abbrev pub taken : List Answer → ℕ
+taken l = total (λ a. (count a) .fetched) l
+
+abbrev pub won : List Answer → ℕ
+won l = total (λ a. (count a) .won) l
+
+abbrev pub lost : List Answer → ℕ
+lost l = total (λ a. (count a) .lost) l
+
+-- claimed and not fetched
+abbrev pub unfetchedBy : Desk ℕ → ℕ
+unfetchedBy idle = 0
+unfetchedBy (looked r) = 0
+unfetchedBy (claimed r) = 1
+unfetchedBy (fetched r) = 0
+
+abbrev pub unfetched : Book → ℕ
+unfetched b = total unfetchedBy (b .desks)
+
+abbrev pub waitsBy : Row → ℕ
+waitsBy r = if r .gone then 0 else 1
+
+abbrev pub waiting : Book → ℕ
+waiting b = total waitsBy (b .rows)
+
+-- the labels that the answers hand over, in order
+abbrev pub labelsOf : Answer → List ℕ
+labelsOf (Put label) = []
+labelsOf (Got label) = label ∷ []
+labelsOf (Took label) = label ∷ []
+labelsOf (Whole n) = []
+labelsOf (Seen place) = []
+labelsOf (Claimed place) = []
+labelsOf Done = []
+labelsOf (Refused w n) = []
+
+unfoldable pub handed : List Answer → List ℕ
+handed [] = []
+handed (a ∷ l) = labelsOf a ++ handed l
+
+-- how often row n stands in a list of rows
+abbrev pub times : ℕ → List ℕ → ℕ
+times n l = total (λ r. if r ≡ᵇ n then 1 else 0) l
+
+-- demand 3: so many claims may be lost; the last part is 0 when none is placed
+unfoldable pub bound : Size → ℕ → ℕ → ℕ
+bound z won placed = (z .t - 1) * won + z .t * ((placed - 1) / z .ne)

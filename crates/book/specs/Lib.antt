@@ -1,0 +1,12 @@
+pub mod Choice
+pub mod Total
+pub mod Sizes
+pub mod Steps
+pub mod Verdicts
+pub mod Book
+pub mod Counts
+pub mod Demands
+pub mod Cases
+pub mod Decoding
+pub mod WornCases
+pub mod BoundCases

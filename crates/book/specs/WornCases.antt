@@ -1,0 +1,30 @@
+-- WORN, at a book that no short run reaches: NE 1, NB 2, put and get by turns, 131,072 labels placed.
+use mathlib.Core.Path.{_≡_}
+use mathlib.Core.Bool.{true, false}
+use mathlib.Core.List.{[], _∷_}
+use Prim.Native.Nat.{ℕ, _-_}
+use lib.ListN.{replicate}
+use Rattle.words.specs.declared.Answer.the-variants.{Put}
+use Rattle.words.specs.declared.Refusal.the-variants.{Notlabel, Worn}
+use Rattle.book.specs.Steps.{idle}
+use Rattle.book.specs.Verdicts.{takes, refuses, startable, placeable}
+use Rattle.book.specs.Book.{Book, opened, after, putStep}
+use Rattle.book.specs.Cases.{put, get, sized, no}
+
+-- the book once label 1 was put and got n times
+abbrev pub byTurns : ℕ → Book
+byTurns n = record { rows = replicate n (record { label = 1; gone = true }); k = n - 1; desks = idle ∷ [] }
+
+unfoldable pub WornCases : Type 0
+WornCases =
+    (after (sized 2 1 1) (opened (sized 2 1 1)) (put 1 ∷ get ∷ put 1 ∷ get ∷ put 1 ∷ get ∷ []) ≡ byTurns 3)
+    -- label 131,072 is placed, and no other
+    × ((putStep (sized 2 1 1) (byTurns 131071) 5) .answer ≡ Put 5)
+    × ((putStep (sized 2 1 1) (byTurns 131072) 5) .answer ≡ no Worn)
+    -- NOTLABEL before WORN; WORN before FULL, where K is Q, and before BUSY
+    × (placeable (sized 2 1 1) 131071 1 131070 (λ q. true) 1000000 ≡ refuses Notlabel)
+    × (placeable (sized 2 1 1) 131071 1 131070 (λ q. true) 5 ≡ refuses Worn)
+    × (placeable (sized 2 1 1) 131071 1 131071 (λ q. true) 5 ≡ refuses Worn)
+    -- 64 blocks: the last turn has round 65,535
+    × (startable (sized 64 64 1) 4194302 (λ q. false) 4194303 ≡ takes)
+    × (startable (sized 64 64 1) 4194303 (λ q. false) 4194304 ≡ refuses Worn)

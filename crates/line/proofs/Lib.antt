@@ -1,0 +1,5 @@
+pub mod Current
+pub mod Cells
+pub mod Tests
+pub mod Check
+pub mod Guards

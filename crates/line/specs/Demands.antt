@@ -1,0 +1,180 @@
+-- The demands, as statements about the line alone and about line and book. proofs/ has a proof of each, under the
+-- same name in small letters.
+use mathlib.Core.Path.{_≡_}
+use mathlib.Core.Logic.{_≢_, _↔_}
+use mathlib.Core.Bool.{Bool}
+use mathlib.Core.List.{List, _∷_, _++_, map}
+use Prim.Native.Nat.{ℕ, zero, suc, _+_, _-_, _*_, _/_, _%_, _^_, _≤_, _<_}
+use lib.Dec.{T}
+use Rattle.words.specs.declared.Answer.{Answer}
+use Rattle.words.specs.declared.Answer.the-variants.{Whole, Refused}
+use Rattle.words.specs.declared.Refusal.{Refusal}
+use Rattle.words.specs.declared.Refusal.the-variants.{Unfit, Damaged, Lost, Range, Empty}
+use Rattle.book.specs.Total.{total}
+use Rattle.book.specs.Sizes.{Size, fits, isOrder}
+use Rattle.book.specs.Steps.{Step, look, Deed, order, desk, idle, decode}
+use Rattle.book.specs.Verdicts.{refuses}
+use Rattle.book.specs.Book as B
+use Rattle.book.specs.Counts.{placed, got, taken, won, lost, unfetched, waiting, handed, times, bound}
+use Rattle.line.specs.Line.{Line, Outcome, sizeOf, deskAt, deskStep, mayPut, opened}
+use Rattle.line.specs.Rules.{Sound, Asked, numberOf, inOrder, Obeys}
+use Rattle.line.specs.Check.{sound, unfit, broken, fit, check}
+use Rattle.line.specs.Calls.{open·line, open·unfit, opens, step, orders, answers, after, isSeen, bit, survey, surveyed, survey·unfit, survey·damaged, none}
+use Rattle.line.specs.Refusals.{When, afterPuts, Places}
+use Rattle.line.specs.Agrees.{Lawful, Agrees}
+
+abbrev Fit : Line → Type 0
+Fit l = T (fit (sizeOf (l .head)) (l .table) (l .entries))
+
+-- ---- demand 1: the check
+
+unfoldable pub CheckUnfit : Type 0
+CheckUnfit = (l : Line) → (check l ≡ unfit) ↔ (Fit l → ⊥)
+
+unfoldable pub CheckSound : Type 0
+CheckSound = (l : Line) → (check l ≡ sound) ↔ (Fit l × Sound l)
+
+-- the rule that is named is broken at the place that is named, and none before it is
+pub record FirstBroken (l : Line) (place rule : ℕ) : Type 0 where
+  pub before : List Asked
+  pub named : Asked
+  pub behind : List Asked
+  pub order : inOrder (l .head .nb) ≡ before ++ (named ∷ behind)
+  pub there : named .place ≡ place
+  pub number : numberOf (named .rule) ≡ rule
+  pub is-broken : Obeys l named → ⊥
+  pub none-before : (x y : List Asked) (a : Asked) → before ≡ x ++ (a ∷ y) → Obeys l a
+
+unfoldable pub CheckBroken : Type 0
+CheckBroken = (l : Line) (place rule : ℕ) → check l ≡ broken place rule → Fit l × FirstBroken l place rule
+
+-- ---- demand 1: what is refused before the code is looked at
+
+pub record Guarded (l : Line) (o : Outcome) : Type 0 where
+  pub unfit : (o .answer ≡ Refused Unfit 0) ↔ (Fit l → ⊥)
+  pub damaged : (o .answer ≡ Refused Damaged 0) ↔ (Fit l × (Sound l → ⊥))
+  pub left : (Fit l × Sound l → ⊥) → o .line ≡ l
+
+unfoldable pub StepGuarded : Type 0
+StepGuarded = (l : Line) (s : Step) → Guarded l (step l s)
+
+unfoldable pub OrderGuarded : Type 0
+OrderGuarded = (l : Line) (a e : ℕ) → Guarded l (orders l a e)
+
+unfoldable pub SurveyGuarded : Type 0
+SurveyGuarded =
+    (l : Line)
+    → ((Fit l → ⊥) → survey l ≡ none survey·unfit)
+    × (Fit l → (Sound l → ⊥) → survey l ≡ none survey·damaged)
+    × (Fit l → Sound l → (survey l) .answer ≡ surveyed)
+
+-- opening refuses exactly numbers or lengths that do not fit, and then leaves what was lent
+unfoldable pub OpeningGuarded : Type 0
+OpeningGuarded =
+    (l : Line) (z : Size)
+    → (T (fit z (l .table) (l .entries)) → ((opens l z) .answer ≡ open·line) × ((opens l z) .line ≡ opened z))
+    × ((T (fit z (l .table) (l .entries)) → ⊥) → ((opens l z) .answer ≡ open·unfit) × ((opens l z) .line ≡ l))
+
+-- ---- demand 1: each refusal exactly when the paper says
+
+abbrev NoOrder : Deed → Type 0
+NoOrder e = (a b : ℕ) → e ≢ order a b
+
+unfoldable pub RefusedWhen : Type 0
+RefusedWhen =
+    (l : Line) (s : Step) (w : Refusal) (n : ℕ) → Fit l → Sound l → NoOrder (decode s)
+    → ((step l s) .answer ≡ Refused w n) ↔ (When l w (decode s) × (n ≡ 0))
+
+-- an order: RANGE, else WHOLE with B - A + 1, or the refusal of the first put that is refused with the number placed
+pub record Ordered (l : Line) (a e : ℕ) (o : Outcome) : Type 0 where
+  pub range : (o .answer ≡ Refused Range 0) ↔ When l Range (order a e)
+  pub whole : (n : ℕ) → (o .answer ≡ Whole n) ↔ (T (isOrder a e) × (n ≡ suc e - a) × Places (sizeOf (l .head)) n l a)
+  pub stopped : (w : Refusal) (n : ℕ) → w ≢ Range
+      → (o .answer ≡ Refused w n)
+      ↔ (T (isOrder a e) × (n < suc e - a) × Places (sizeOf (l .head)) n l a × (mayPut (sizeOf (l .head)) (afterPuts (sizeOf (l .head)) n l a) (a + n) ≡ refuses w))
+  pub placed : (n : ℕ) → o .answer ≡ Whole n → o .line ≡ afterPuts (sizeOf (l .head)) n l a
+  pub kept : (w : Refusal) (n : ℕ) → o .answer ≡ Refused w n → o .line ≡ afterPuts (sizeOf (l .head)) n l a
+
+unfoldable pub OrderedWhen : Type 0
+OrderedWhen = (l : Line) (a e : ℕ) → Fit l → Sound l → Ordered l a e (orders l a e)
+
+unfoldable pub StepIsOrder : Type 0
+StepIsOrder = (l : Line) (s : Step) (a e : ℕ) → decode s ≡ order a e → step l s ≡ orders l a e
+
+-- ---- demand 1: what a refusal leaves
+
+unfoldable pub RefusedLeaves : Type 0
+RefusedLeaves = (l : Line) (s : Step) (w : Refusal) (n : ℕ) → NoOrder (decode s) → (step l s) .answer ≡ Refused w n → w ≢ Lost → w ≢ Empty → (step l s) .line ≡ l
+
+unfoldable pub HeadAlone : Type 0
+HeadAlone =
+    (l : Line) (s : Step) (w : Refusal) (n : ℕ) → NoOrder (decode s) → (step l s) .answer ≡ Refused w n
+    → ((step l s) .line .table ≡ l .table) × ((step l s) .line .entries ≡ l .entries)
+
+-- ---- sound in, sound out
+
+unfoldable pub SoundOut : Type 0
+SoundOut = (z : Size) (l : Line) (s : Step) → Lawful z l → Lawful z ((step l s) .line)
+
+unfoldable pub OrderSoundOut : Type 0
+OrderSoundOut = (z : Size) (l : Line) (a e : ℕ) → Lawful z l → Lawful z ((orders l a e) .line)
+
+unfoldable pub AlwaysSound : Type 0
+AlwaysSound = (z : Size) (ss : List Step) → T (fits z) → check (after (opened z) ss) ≡ sound
+
+-- ---- demand 2
+
+unfoldable pub RunAgrees : Type 0
+RunAgrees = (z : Size) (l : Line) (b : B.Book) (ss : List Step) → Agrees z l b → (answers l ss ≡ B.answers z b ss) × Agrees z (after l ss) (B.after z b ss)
+
+unfoldable pub OpenedAgrees : Type 0
+OpenedAgrees = (z : Size) → T (fits z) → Agrees z (opened z) (B.opened z)
+
+unfoldable pub Demand2 : Type 0
+Demand2 = (z : Size) (ss : List Step) → T (fits z) → answers (opened z) ss ≡ B.answers z (B.opened z) ss
+
+unfoldable pub LineCounting : Type 0
+LineCounting =
+    (z : Size) (ss : List Step) → T (fits z)
+    → let l = answers (opened z) ss in
+    let b = B.after z (B.opened z) ss in
+    placed l ≡ got l + taken l + unfetched b + waiting b
+
+-- no row's label leaves twice
+unfoldable pub LineHanded : Type 0
+LineHanded =
+    (z : Size) (ss : List Step) → T (fits z)
+    → let rows = B.leaves z (B.opened z) ss in
+    (handed (answers (opened z) ss) ≡ map (λ n. (B.rowAt ((B.after z (B.opened z) ss) .rows) n) .label) rows) × ((n : ℕ) → times n rows ≤ 1)
+
+-- ---- the survey
+
+abbrev pub bitAt : ℕ → ℕ → ℕ
+bitAt n b = n / 2 ^ b % 2
+
+-- how many of the bits below n are set
+unfoldable pub ones : ℕ → ℕ → ℕ
+ones zero m = 0
+ones (suc n) m = bitAt m n + ones n m
+
+-- the lowest bit that is set, or 64 where none is
+pub record LeastBit (mask b : ℕ) : Type 0 where
+  pub none-below : (c : ℕ) → c < b → bitAt mask c ≡ 0
+  pub set : b ≢ 64 → bitAt mask b ≡ 1
+  pub none : b ≡ 64 → mask ≡ 0
+
+pub record Surveys (l : Line) : Type 0 where
+  -- bit b says that an idle desk's look at block b would be SEEN
+  pub bits : (d b : ℕ) → d < l .head .t → bitAt ((survey l) .mask) b ≡ bit (isSeen ((deskStep (sizeOf (l .head)) l d (look b) idle) .answer))
+  -- and so is, where a desk is idle
+  pub looks : (d b : ℕ) (s : Step) → deskAt (l .head) d ≡ idle → d < l .head .t → decode s ≡ desk d (look b) → bitAt ((survey l) .mask) b ≡ bit (isSeen ((step l s) .answer))
+  pub count : (survey l) .count ≡ ones 64 ((survey l) .mask)
+  pub lowest : LeastBit ((survey l) .mask) ((survey l) .lowest)
+
+unfoldable pub SurveyTells : Type 0
+SurveyTells = (l : Line) → Fit l → Sound l → Surveys l
+
+-- ---- demand 3
+
+unfoldable pub Demand3 : Type 0
+Demand3 = (z : Size) (ss : List Step) → T (fits z) → let l = answers (opened z) ss in lost l ≤ bound z (won l) (placed l)

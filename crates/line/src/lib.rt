@@ -1,0 +1,59 @@
+// The line: its records, and what each call means on them. Definitions and theorems, no code.
+//
+// The records are numbers only, so that a portal lends its own memory. specs/Line.antt has the
+// steps, specs/Rules.antt the rules of a sound line in the paper's words, specs/Check.antt the check,
+// specs/Calls.antt what a caller gets. specs/Demands.antt states demands 1 to 3; proofs/ proves them.
+
+// A desk: stage 0 is idle, 1 looked, 2 claimed, 3 fetched. An idle desk's turn and place are not read.
+#[repr(C)]
+pub struct Desk {
+    pub stage: u16,
+    pub place: u16,
+    pub turn: u32,
+}
+
+#[repr(C)]
+pub struct Block {
+    pub round: u16,
+    pub written: u16,
+    pub claimed: u16,
+    pub finished: u16,
+}
+
+#[repr(C)]
+pub struct Head {
+    pub nb: u16,
+    pub ne: u16,
+    pub t: u16,
+    pub reading: u16,
+    pub p: u32,
+    pub k: u32,
+    pub desks: [Desk; 16],
+}
+
+// What opening answers.
+pub enum Opening {
+    Open,
+    Unfit,
+}
+
+// What the check answers: sound, UNFIT, or the place and the rule.
+pub enum Checked {
+    Sound,
+    Unfit,
+    Broken(u32, u32),
+}
+
+// What the survey answers, and gives.
+pub enum Surveyed {
+    Survey,
+    Unfit,
+    Damaged,
+}
+
+pub struct Views {
+    pub answer: Surveyed,
+    pub mask: u64,
+    pub count: u32,
+    pub lowest: u32,
+}

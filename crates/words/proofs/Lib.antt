@@ -1,0 +1,2 @@
+mod Arms
+pub mod Laws
