@@ -12,11 +12,11 @@ use Rattle.words.specs.declared.Refusal.{Refusal}
 use Rattle.words.specs.declared.Refusal.the-variants.{Unfit, Damaged, Lost, Range, Empty}
 use Rattle.book.specs.Total.{total}
 use Rattle.book.specs.Sizes.{Size, fits, isOrder}
-use Rattle.book.specs.Steps.{Step, look, Deed, order, desk, idle, decode}
+use Rattle.book.specs.Steps.{Step, look, claim, Deed, get, order, desk, idle, decode}
 use Rattle.book.specs.Verdicts.{refuses}
 use Rattle.book.specs.Book as B
 use Rattle.book.specs.Counts.{placed, got, taken, won, lost, unfetched, waiting, handed, times, bound}
-use Rattle.line.specs.Line.{Line, Outcome, sizeOf, deskAt, deskStep, mayPut, opened}
+use Rattle.line.specs.Line.{Line, Outcome, sizeOf, deskAt, getAt, withDesk, withHead, recordOf, deskStep, mayPut, opened}
 use Rattle.line.specs.Rules.{Sound, Asked, numberOf, inOrder, Obeys}
 use Rattle.line.specs.Check.{sound, unfit, broken, fit, check}
 use Rattle.line.specs.Calls.{open·line, open·unfit, opens, step, orders, answers, after, isSeen, bit, survey, surveyed, survey·unfit, survey·damaged, none}
@@ -87,7 +87,7 @@ RefusedWhen =
 
 -- an order: RANGE, else WHOLE with B - A + 1, or the refusal of the first put that is refused with the number placed
 pub record Ordered (l : Line) (a e : ℕ) (o : Outcome) : Type 0 where
-  pub range : (o .answer ≡ Refused Range 0) ↔ When l Range (order a e)
+  pub range : (n : ℕ) → (o .answer ≡ Refused Range n) ↔ (When l Range (order a e) × (n ≡ 0))
   pub whole : (n : ℕ) → (o .answer ≡ Whole n) ↔ (T (isOrder a e) × (n ≡ suc e - a) × Places (sizeOf (l .head)) n l a)
   pub stopped : (w : Refusal) (n : ℕ) → w ≢ Range
       → (o .answer ≡ Refused w n)
@@ -110,6 +110,18 @@ unfoldable pub HeadAlone : Type 0
 HeadAlone =
     (l : Line) (s : Step) (w : Refusal) (n : ℕ) → NoOrder (decode s) → (step l s) .answer ≡ Refused w n
     → ((step l s) .line .table ≡ l .table) × ((step l s) .line .entries ≡ l .entries)
+
+-- LOST leaves the desk idle; EMPTY keeps the moves: K is then P, and turn P is read to its end
+unfoldable pub LostLeaves : Type 0
+LostLeaves =
+    (l : Line) (s : Step) (n : ℕ) → Fit l → Sound l → NoOrder (decode s) → (step l s) .answer ≡ Refused Lost n
+    → (d : ℕ) × (decode s ≡ desk d claim) × ((step l s) .line ≡ withHead l (withDesk (l .head) d idle))
+
+unfoldable pub EmptyLeaves : Type 0
+EmptyLeaves =
+    (l : Line) (s : Step) (n : ℕ) → Fit l → Sound l → decode s ≡ get → (step l s) .answer ≡ Refused Empty n
+    → let p = l .head .p in
+    (step l s) .line ≡ withHead l (getAt (l .head) (record { turn = p; place = (recordOf (sizeOf (l .head)) (l .table) p) .written }))
 
 -- ---- sound in, sound out
 
