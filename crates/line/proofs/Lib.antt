@@ -6,3 +6,11 @@ pub mod Guards
 pub mod Empty
 pub mod Refusals
 pub mod Orders
+pub mod Told
+pub mod Kept
+pub mod SoundPut
+pub mod SoundGet
+pub mod SoundDesks
+pub mod Sound
+pub mod Survey
+pub mod Cases

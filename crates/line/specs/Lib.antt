@@ -5,3 +5,6 @@ pub mod Calls
 pub mod Refusals
 pub mod Agrees
 pub mod Demands
+pub mod Samples
+pub mod Damaged
+pub mod Cases

@@ -1,0 +1,214 @@
+-- The desks' steps leave a sound line sound. A look, a LOST claim and a fetch change one desk, which holds what it held. A claim
+-- that is won raises claimed of a current turn above K, and its desk takes the place that was claimed: it is below written, as
+-- rule 3 says of the look, and nobody held it, since every place that is held is below claimed. Turn 0 is never claimed, being
+-- at most K. A finish raises finished, and the turn has one holder less.
+use mathlib.Core.Path.{_≡_, refl, sym, ap, _∙_, subst}
+use mathlib.Core.Logic.{_≢_}
+use mathlib.Core.Bool.{not, _&&_}
+use Prim.Native.Nat.{ℕ, _<_}
+use native.Mathlib.Nat.{mod-le}
+use native.Mathlib.Omega.{arith}
+use lib.Dec.{T, leb→le, le→leb, nleb→lt, eqb→eq}
+use lib.ListN.{length, set, length-set}
+use Rattle.book.specs.Choice.{_≤ᵇ_, _≡ᵇ_}
+use Rattle.book.specs.Sizes.{Size, blockOf, currentTurn, isUsed, isOwned}
+use Rattle.book.specs.Steps.{DeskStep, look, claim, fetch, finish, Desk, idle, looked, claimed, fetched, carried}
+use Rattle.book.specs.Verdicts.{Verdict, judge, stage, column, atStage, noBlock, admitted, lookable}
+use Rattle.book.proofs.Choice.{by-test, and-first, and-second, T→true, neq-test, neq→eqb}
+use Rattle.book.proofs.Turns.{current-low, current-high}
+use Rattle.line.specs.Line.{Line, Block, Spot, Outcome, nowhere, lent, deskAt, sizeOf, withDesk, withHead, withRecord}
+use Rattle.line.specs.Line.{oneClaimed, oneFinished, refuse, lookStep, winnable, claimStep, fetchStep, finishStep, taken, deskStep}
+use Rattle.line.specs.Rules.{heldIn, Holds, DeskRule}
+use Rattle.line.specs.Agrees.{Lawful}
+use Rattle.line.proofs.Current.{current→window, window→current, record-same}
+use Rattle.line.proofs.Told.{Stands, here, In, Told, told, some-block, lawful}
+use Rattle.line.proofs.Kept.{held-one, held-rule, holders-set, Apart, three-desk, stands-by, Grows, three-record, told-record}
+
+module _ (l : Line) (g : Told l) where
+  abbrev z : Size
+  z = sizeOf (l .head)
+
+  abbrev p : ℕ
+  p = l .head .p
+
+  -- the line after a step by verdict: that of o where it takes
+  abbrev Judged : Outcome → Verdict → Type 0
+  Judged o v = Lawful z ((judge v o (refuse l)) .line)
+
+  unchanged : Lawful z l
+  unchanged = lawful l g
+
+  module _ (d : ℕ) (below : d < z .t) where
+    abbrev was : Desk Spot
+    was = deskAt (l .head) d
+
+    there : d < length (l .head .desks)
+    there = omega (arith, g .many)
+
+    -- ---- desk d becomes x, and holds what it held
+
+    becomes : (x : Desk Spot) → DeskRule l x → ((u : ℕ) → heldIn u x ≡ heldIn u was) → ((s : Spot) → Holds x s → Holds was s)
+        → Lawful z (withHead l (withDesk (l .head) d x))
+    becomes x rule same held = lawful (withHead l (withDesk (l .head) d x)) (record {
+      valid = g .valid;
+      blocks = g .blocks;
+      room = g .room;
+      many = length-set (l .head .desks) d (lent x) ∙ g .many;
+      one = record { below = g .one .below; near = g .one .near; rounds = g .one .rounds };
+      two = record { from = g .two .from; to = g .two .to };
+      three = three-desk l d x there (g .three) (λ e n s a b. g .three .apart e d s n b (held s a)) below rule;
+      turns = λ t w. stands-by (omega (arith, holders-set (l .head) d x there t, same t)) (g .turns t w);
+      blanks = g .blanks;
+    })
+
+    sees : (t : ℕ) → In l t → (here l t) .claimed ≢ (here l t) .written → ((u : ℕ) → heldIn u was ≡ 0)
+        → Lawful z (withHead l (withDesk (l .head) d (looked (record { turn = t; place = (here l t) .claimed }))))
+    sees t v n none =
+        let s = g .turns t v in
+        becomes (looked (record { turn = t; place = (here l t) .claimed }))
+        (v .low, omega (arith, s .claims, s .fits), λ _. omega (arith, s .claims)) (λ u. sym (none u)) (λ _ h. absurd h)
+
+    look-lawful : (i : ℕ) → ((u : ℕ) → heldIn u was ≡ 0) → Lawful z ((lookStep z l d i) .line)
+    unfolding lookStep lookable
+    look-lawful i none =
+        let t = currentTurn z p i in
+        let c = here l t in
+        let used = isUsed z p i in
+        let waits = not (c .claimed ≡ᵇ c .written) in
+        by-test (Judged _) (isOwned z p (l .head .k) i) (λ _. unchanged) (λ _.
+        by-test (Judged _) (used && waits)
+        (λ m. sees t (record { low = current-low z p i; high = current-high z p i (some-block l g) (leb→le i p (and-first used waits m)) })
+        (neq-test (c .claimed) (c .written) (and-second used waits m)) none)
+        (λ _. unchanged))
+
+    fetch-lawful : (s : Spot) → was ≡ claimed s → Lawful z ((fetchStep z l d s) .line)
+    unfolding fetchStep
+    fetch-lawful s e = becomes (fetched s) (rw e at (g .three .desks d)) (λ u. rw e refl) (λ _ h. rw e h)
+
+    -- ---- desk d becomes x, and the record of turn t becomes c
+
+    both : (x : Desk Spot) (t : ℕ) (c : Block) → Grows l t c → Stands z p (set (l .head .desks) d (lent x)) t c
+        → ((u : ℕ) → u ≢ t → heldIn u x ≡ heldIn u was) → DeskRule (withRecord z l (l .head) t c) x → ((e : ℕ) → e ≢ d → Apart x (deskAt (l .head) e))
+        → Lawful z (withRecord z l (withDesk (l .head) d x) t c)
+    both x t c r new others rule apart =
+        lawful (withRecord z l (withDesk (l .head) d x) t c)
+        (told-record l g t c r (l .entries) (set (l .head .desks) d (lent x)) (length-set (l .head .desks) d (lent x) ∙ g .many) refl new
+        (λ u n. omega (arith, holders-set (l .head) d x there u, others u n))
+        (three-desk (withRecord z l (l .head) t c) d x there (three-record l g t c r (l .entries)) apart below rule))
+
+    -- ---- claim
+
+    module _ (s : Spot) (e : was ≡ looked s) (w : T (winnable z l s)) where
+      abbrev t : ℕ
+      t = s .turn
+
+      -- what the tests say, and the look
+      record Won : Type 0 where
+        turn : In l t
+        above : l .head .k < t
+        still : (here l t) .claimed ≡ s .place
+        space : s .place < (here l t) .written
+
+      won : Won
+      unfolding winnable isOwned
+      won =
+          let i = blockOf z t in
+          let a = currentTurn z p i ≡ᵇ t in let o = not (isOwned z p (l .head .k) i) in let b = (here l t) .claimed ≡ᵇ s .place in
+          let c : currentTurn z p i ≡ t = eqb→eq (currentTurn z p i) t (and-first a o (and-first (a && o) b w)) in
+          let v = current→window z p t (some-block l g) c in
+          let used : T (isUsed z p i) = le→leb i p (omega (arith, mod-le t (z .nb), v .low)) in
+          let seen : DeskRule l (looked s) = rw e at (g .three .desks d) in
+          record {
+            turn = v;
+            above = nleb→lt t (l .head .k) (rw (T→true (isUsed z p i) used, c) at (and-second a o (and-first (a && o) b w)));
+            still = eqb→eq ((here l t) .claimed) (s .place) (and-second (a && o) b w);
+            space = seen .2 c;
+          }
+
+      abbrev c : Block
+      c = oneClaimed (here l t)
+
+      one-claimed : Stands z p (set (l .head .desks) d (lent (claimed s))) t c
+      one-claimed = let o = g .turns t (won .turn) in record {
+        round = o .round;
+        fits = o .fits;
+        full = o .full;
+        some = o .some;
+        claims = omega (arith, won .still, won .space);
+        zeroth = λ k. absurd (omega (arith, won .above));
+        held = omega (arith, o .held, holders-set (l .head) d (claimed s) there t, held-one (claimed s) s refl, ap (heldIn t) e);
+      }
+
+      nobody : (i : ℕ) → i ≢ d → Apart (claimed s) (deskAt (l .head) i)
+      nobody i _ x k h =
+          let b : s .place < (here l t) .claimed = rw (← k) at (held-rule l (deskAt (l .head) i) x h (g .three .desks i) .1) in
+          omega (arith, won .still)
+
+      grows : Grows l t c
+      grows = record { turn = won .turn; claims = omega arith; writes = omega arith; reading = λ k. absurd (omega (arith, won .above)) }
+
+      wins : Lawful z (withRecord z l (withDesk (l .head) d (claimed s)) t c)
+      wins =
+          both (claimed s) t c grows one-claimed
+          (λ u n. rw (e, neq→eqb t u (λ k. n (sym k))) refl)
+          (window→current z p t (some-block l g) (won .turn), rw (record-same z (l .table) t c (some-block l g) (g .blocks)) (omega (arith, won .still)))
+          nobody
+
+    claim-lawful : (s : Spot) → was ≡ looked s → Lawful z ((claimStep z l d s) .line)
+    unfolding claimStep
+    claim-lawful s e = by-test (λ (o : Outcome). Lawful z (o .line)) (winnable z l s) (wins s e) (λ _. becomes idle tt (λ u. rw e refl) (λ _ h. absurd h))
+
+    -- ---- finish
+
+    module _ (s : Spot) (e : was ≡ fetched s) where
+      held-turn : In l (s .turn)
+      held-turn = let r : DeskRule l (fetched s) = rw e at (g .three .desks d) in current→window z p (s .turn) (some-block l g) (r .0)
+
+      one-finished : Stands z p (set (l .head .desks) d (lent idle)) (s .turn) (oneFinished (here l (s .turn)))
+      one-finished = let o = g .turns (s .turn) held-turn in record {
+        round = o .round;
+        fits = o .fits;
+        full = o .full;
+        some = o .some;
+        claims = o .claims;
+        zeroth = o .zeroth;
+        held = omega (arith, o .held, holders-set (l .head) d idle there (s .turn), held-one (fetched s) s refl, ap (heldIn (s .turn)) e);
+      }
+
+      finish-lawful : Lawful z ((finishStep z l d s) .line)
+      unfolding finishStep
+      finish-lawful =
+          both idle (s .turn) (oneFinished (here l (s .turn)))
+          (record { turn = held-turn; claims = omega arith; writes = omega arith; reading = λ k. rw k at (g .two .from) }) one-finished
+          (λ u n. rw (e, neq→eqb (s .turn) u (λ k. n (sym k))) refl) tt (λ _ _ _ h. absurd h)
+
+    -- ---- the grid, a stage at a time
+
+    at-stage : (x : Desk Spot) (s : DeskStep) → was ≡ x → Judged (taken z l d (carried nowhere x) s) (atStage (stage x) (column s))
+    unfolding taken
+    at-stage idle (look i) e = look-lawful i (λ u. ap (heldIn u) e)
+    at-stage idle claim e = unchanged
+    at-stage idle fetch e = unchanged
+    at-stage idle finish e = unchanged
+    at-stage (looked s) (look i) e = look-lawful i (λ u. ap (heldIn u) e)
+    at-stage (looked s) claim e = claim-lawful s e
+    at-stage (looked s) fetch e = unchanged
+    at-stage (looked s) finish e = unchanged
+    at-stage (claimed s) (look i) e = unchanged
+    at-stage (claimed s) claim e = unchanged
+    at-stage (claimed s) fetch e = fetch-lawful s e
+    at-stage (claimed s) finish e = unchanged
+    at-stage (fetched s) (look i) e = unchanged
+    at-stage (fetched s) claim e = unchanged
+    at-stage (fetched s) fetch e = unchanged
+    at-stage (fetched s) finish e = finish-lawful s e
+
+  own-desk : (d : ℕ) (s : DeskStep) → Lawful z ((deskStep z l d s (deskAt (l .head) d)) .line)
+  unfolding deskStep admitted
+  own-desk d s =
+      by-test (Judged _) (z .t ≤ᵇ d) (λ _. unchanged) (λ b.
+      by-test (Judged _) (noBlock z s) (λ _. unchanged) (λ _. at-stage d (nleb→lt (z .t) d b) (deskAt (l .head) d) s refl))
+
+pub desk-lawful : (z : Size) (l : Line) (d : ℕ) (s : DeskStep) → Lawful z l → Lawful z ((deskStep z l d s (deskAt (l .head) d)) .line)
+desk-lawful z l d s w =
+    subst (λ (x : Size). Lawful x l → Lawful x ((deskStep x l d s (deskAt (l .head) d)) .line)) (w .size) (λ v. own-desk l (told l v) d s) w
