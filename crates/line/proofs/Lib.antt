@@ -12,5 +12,14 @@ pub mod SoundPut
 pub mod SoundGet
 pub mod SoundDesks
 pub mod Sound
+pub mod Verdicts
+pub mod Front
+pub mod Desks
+pub mod FollowsPut
+pub mod FollowsGet
+pub mod FollowsClaim
+pub mod FollowsDesks
+pub mod Follows
+pub mod Runs
 pub mod Survey
 pub mod Cases

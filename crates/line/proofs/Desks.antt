@@ -1,0 +1,185 @@
+-- The desks of both: the book's are the line's first T, each turn and place as a row, and the line's from T up are idle.
+-- So as many desks hold a row of a turn as hold a spot of it, and BUSY is the same on both sides, by rule 7. A desk that
+-- is written is written in both; with it records and rows may change, where written and the labels stand, and claimed
+-- does not fall.
+use mathlib.Core.Path.{_≡_, refl, sym, ap, _∙_, subst}
+use mathlib.Core.List.{List, [], _∷_, map}
+use Prim.Native.Nat.{ℕ, zero, suc, _≤_, _<_}
+use native.Mathlib.Omega.{arith}
+use lib.Dec.{ltb, eqb, ltb→lt, lt→ltb, nltb→le, eqb→eq}
+use lib.ListN.{length, getD, set, take, length-take, List·getD-map, List·getD-eq-default}
+use lib.Seq.{getD-take, getD-set-same, getD-set-other, take-set-lt}
+use Rattle.book.specs.Choice.{if_then_else_}
+use Rattle.book.specs.Total.{total}
+use Rattle.book.specs.Sizes.{Size}
+use Rattle.book.specs.Steps.{Desk, idle, looked, claimed, fetched, carried}
+use Rattle.book.specs.Book.{Row, Book, rowAt, rowOf}
+use Rattle.book.specs.Book as B
+use Rattle.book.proofs.Choice.{cases, same-test, neq-test}
+use Rattle.book.proofs.Total.{total-none, any-total}
+use Rattle.book.proofs.Rows.{row-turn}
+use Rattle.line.specs.Line.{Line, LentDesk, Head, Block, Spot, nowhere, deskOf, lent, deskAt, sizeOf, withDesk, recordOf, isBusy}
+use Rattle.line.specs.Rules.{heldIn, DeskRule}
+use Rattle.line.specs.Agrees.{asRow, front, Agrees}
+use Rattle.line.proofs.Current.{Window, current→window}
+use Rattle.line.proofs.Front.{Matches, front-same, sizes, pos, near, put-window, current}
+
+-- ---- a desk is written, and read
+
+lent-desk : (x : Desk Spot) → deskOf (lent x) ≡ x
+unfolding deskOf
+lent-desk idle = refl
+lent-desk (looked s) = refl
+lent-desk (claimed s) = refl
+lent-desk (fetched s) = refl
+
+-- what holds of the desk that is written, and of every desk before, holds of every desk after
+by-desk : (P : Desk Spot → Type 0) (h : Head) (d : ℕ) (x : Desk Spot) → d < length (h .desks)
+    → P x → ((e : ℕ) → P (deskAt h e)) → (e : ℕ) → P (deskAt (withDesk h d x) e)
+by-desk P h d x i new old e =
+    cases (eqb e d)
+    (λ s. rw (eqb→eq e d s, getD-set-same (h .desks) d (lent x) (lent idle) i, lent-desk x) new)
+    (λ s. rw (getD-set-other (h .desks) d e (lent x) (lent idle) (neq-test e d s)) (old e))
+
+abbrev pub IsLooked : Desk Spot → Type 0
+IsLooked idle = ⊥
+IsLooked (looked s) = Unit {0}
+IsLooked (claimed s) = ⊥
+IsLooked (fetched s) = ⊥
+
+pub looked-not : (x : Desk Spot) → (IsLooked x → ⊥) → (s : Spot) → x ≡ looked s → ⊥
+looked-not x n s e = n (subst IsLooked (sym e) tt)
+
+-- ---- the first n of a list, mapped
+
+module _ {A B : Type 0} (f : A → B) where
+  map-set : (l : List A) (i : ℕ) (x : A) → map f (set l i x) ≡ set (map f l) i (f x)
+  map-set [] i x = refl
+  map-set (y ∷ ys) zero x = refl
+  map-set (y ∷ ys) (suc i) x = ap (λ (r : List B). f y ∷ r) (map-set ys i x)
+
+  -- their total is that of the whole list, where the others count 0
+  total-first : (c : B → ℕ) (h : A → ℕ) (n : ℕ) (l : List A) (d : A)
+      → ((i : ℕ) → c (f (getD l i d)) ≡ h (getD l i d)) → ((i : ℕ) → n ≤ i → h (getD l i d) ≡ 0) → total c (map f (take n l)) ≡ total h l
+  unfolding total
+  total-first c h zero l d same none = sym (total-none h l d (λ i. none i (omega arith)))
+  total-first c h (suc n) [] d same none = refl
+  total-first c h (suc n) (x ∷ xs) d same none =
+      let r = total-first c h n xs d (λ i. same (suc i)) (λ i j. none (suc i) (omega arith)) in omega (arith, same 0)
+
+module _ (l : Line) (b : Book) (g : Agrees (sizeOf (l .head)) l b) where
+  abbrev z : Size
+  z = sizeOf (l .head)
+
+  abbrev p : ℕ
+  p = l .head .p
+
+  abbrev here : ℕ → Block
+  here t = recordOf z (l .table) t
+
+  abbrev asDesk : LentDesk → Desk ℕ
+  asDesk x = asRow z (deskOf x)
+
+  -- ---- a desk of both
+
+  pub desk-same : (d : ℕ) → B.deskAt b d ≡ asRow z (deskAt (l .head) d)
+  unfolding deskOf
+  desk-same d =
+      let first = take (z .t) (l .head .desks) in
+      ap (λ (ds : List (Desk ℕ)). getD ds d idle) (g .desks) ∙ List·getD-map asDesk first d (lent idle)
+      ∙ cases (ltb d (z .t))
+      (λ t. ap asDesk (getD-take (z .t) (l .head .desks) d (lent idle) (ltb→lt d (z .t) t)))
+      (λ t. let h = nltb→le d (z .t) t in
+      ap asDesk (List·getD-eq-default first (lent idle) (rw length-take (omega arith))) ∙ ap (asRow z) (sym (g .lawful .sound .three .idles d h)))
+
+  desks-set : (d : ℕ) (x : Desk Spot) → d < z .t → set (b .desks) d (asRow z x) ≡ map asDesk (take (z .t) (set (l .head .desks) d (lent x)))
+  desks-set d x h =
+      rw (g .desks, take-set-lt (z .t) (l .head .desks) d (lent x) h, map-set asDesk (take (z .t) (l .head .desks)) d (lent x), lent-desk x)
+
+  -- what rule 3 says of it: a spot that it holds is current, and its label is written
+  pub rule : (d : ℕ) (x : Desk Spot) → deskAt (l .head) d ≡ x → DeskRule l x
+  rule d x e = rw e at (g .lawful .sound .three .desks d)
+
+  module _ (s : Spot) (r : DeskRule l (claimed s)) where
+    pub held-current : Window z p (s .turn)
+    held-current = current→window z p (s .turn) (pos l b g) (r .0)
+
+    pub held-written : s .place < (here (s .turn)) .written
+    held-written = omega (arith, r .1, current l b g (s .turn) held-current .claims)
+
+    held-fits : s .place < z .ne
+    held-fits = omega (arith, held-written, current l b g (s .turn) held-current .fits)
+
+  -- ---- BUSY
+
+  held-same : (q : ℕ) (x : Desk Spot) → DeskRule l x → (if B.heldIn z q (asRow z x) then 1 else 0) ≡ heldIn q x
+  unfolding B.heldIn
+  held-same q idle r = refl
+  held-same q (looked s) r = refl
+  held-same q (claimed s) r = rw (row-turn z (s .turn) (s .place) (held-fits s r))
+  held-same q (fetched s) r = rw (row-turn z (s .turn) (s .place) (held-fits s r))
+
+  held-total : (q : ℕ) → total (λ x. if B.heldIn z q x then 1 else 0) (b .desks) ≡ total (λ x. heldIn q (deskOf x)) (l .head .desks)
+  held-total q =
+      rw (g .desks)
+      (total-first asDesk (λ x. if B.heldIn z q x then 1 else 0) (λ x. heldIn q (deskOf x)) (z .t) (l .head .desks) (lent idle)
+      (λ d. held-same q (deskAt (l .head) d) (rule d (deskAt (l .head) d) refl))
+      (λ d h. ap (heldIn q) (g .lawful .sound .three .idles d h)))
+
+  pub busy-same : (q : ℕ) → Window z p q → isBusy z (l .table) q ≡ B.isBusy z b q
+  unfolding isBusy B.isBusy
+  busy-same q w =
+      let n = total (λ (x : LentDesk). heldIn q (deskOf x)) (l .head .desks) in
+      let c = here q in
+      let e = current l b g q w .holders in
+      rw (any-total (B.heldIn z q) (b .desks), held-total q)
+      (same-test (ltb (c .finished) (c .claimed)) (ltb 0 n)
+      (λ s. lt→ltb 0 n (omega (arith, ltb→lt (c .finished) (c .claimed) s)))
+      (λ s. lt→ltb (c .finished) (c .claimed) (omega (arith, ltb→lt 0 n s))))
+
+  -- ---- a desk changes
+
+  -- what it sees above K is at most claimed
+  abbrev pub Sees : List Block → Desk Spot → Type 0
+  Sees tb x = (s : Spot) → x ≡ looked s → l .head .k < s .turn → s .place ≤ (recordOf z tb (s .turn)) .claimed
+
+  pub sees-not : (tb : List Block) (x : Desk Spot) → (IsLooked x → ⊥) → Sees tb x
+  sees-not tb x n s e = absurd (looked-not x n s e)
+
+  pub sees-place : (tb : List Block) (s : Spot) → s .place ≤ (recordOf z tb (s .turn)) .claimed → Sees tb (looked s)
+  sees-place tb s h u e i = subst (λ (v : Spot). v .place ≤ (recordOf z tb (v .turn)) .claimed) (ap (carried nowhere) e) h
+
+  module _ (d : ℕ) (h : d < z .t) (x : Desk Spot) where
+    abbrev pub changed : List Block → Line
+    changed tb = record { head = withDesk (l .head) d x; table = tb; entries = l .entries }
+
+    desk-in : d < length (l .head .desks)
+    desk-in = omega (arith, sizes l b g .t-most, g .lawful .many)
+
+    pub desk-matches : (tb : List Block) (rs : List Row)
+        → ((u : ℕ) → Window z p u → ((recordOf z tb u) .written ≡ (here u) .written) × ((here u) .claimed ≤ (recordOf z tb u) .claimed)) → Sees tb x
+        → length rs ≡ length (b .rows) → ((m : ℕ) → (rowAt rs m) .label ≡ (rowAt (b .rows) m) .label)
+        → ((u q : ℕ) → q < z .ne → (rowAt rs (rowOf z u q)) .gone ≡ ltb q (front z (changed tb) u))
+        → Matches z (changed tb) (record { rows = rs; k = b .k; desks = set (b .desks) d (asRow z x) })
+    desk-matches tb rs kept sees many label marks = record {
+      turn = g .turn;
+      desks = desks-set d x h;
+      rows = rw (many, kept p (put-window l b g) .0) (g .rows);
+      labels = λ s low high i. let w : Window z p (s .turn) = record { low = low; high = high } in
+          g .labels s low high (rw (kept (s .turn) w .0) at i) ∙ sym (label (rowOf z (s .turn) (s .place)));
+      marks = marks;
+      looks = by-desk (Sees tb) (l .head) d x desk-in sees
+          (λ e s r i. omega (arith, g .looks e s r i, kept (s .turn) (near l b g (s .turn) (omega arith) (rule e (looked s) r .0))));
+    }
+
+    -- no row is marked, and claimed stands too
+    pub quiet-matches : (tb : List Block)
+        → ((u : ℕ) → Window z p u → ((recordOf z tb u) .written ≡ (here u) .written) × ((recordOf z tb u) .claimed ≡ (here u) .claimed)) → Sees tb x
+        → Matches z (changed tb) (B.withDesk b d (asRow z x))
+    quiet-matches tb kept sees =
+        desk-matches tb (b .rows) (λ u w. let e = kept u w in (e .0, omega arith)) sees refl (λ m. refl)
+        (λ u q i. g .marks u q i ∙ ap (ltb q) (sym (front-same z l (changed tb) u refl refl refl (λ a n. kept u (near l b g u (omega arith) n) .1))))
+
+    -- the desk changes alone
+    pub alone-matches : Sees (l .table) x → Matches z (changed (l .table)) (B.withDesk b d (asRow z x))
+    alone-matches = quiet-matches (l .table) (λ u w. (refl, refl))

@@ -1,0 +1,88 @@
+-- Every run: sound in, sound out; the line's answers are the book's; and so counting, "never twice" and the bound hold of
+-- the line's own answers. One step is proofs/Sound.antt and proofs/Follows.antt; here they are added up over a list of steps.
+use mathlib.Core.Path.{_≡_, refl, sym, ap₂}
+use mathlib.Core.List.{List, [], _∷_}
+use Prim.Native.Nat.{ℕ}
+use lib.Dec.{T}
+use Rattle.words.specs.declared.Answer.{Answer}
+use Rattle.book.specs.Sizes.{Size, fits}
+use Rattle.book.specs.Steps.{Step, order, decode}
+use Rattle.book.specs.Book as B
+use Rattle.book.specs.Demands.{Counting, NeverTwice, Handed, Bounded}
+use Rattle.book.proofs.Counting.{counting, never-twice}
+use Rattle.book.proofs.Handed.{handed-over}
+use Rattle.book.proofs.Bound.{bounded}
+use Rattle.line.specs.Line.{Line, Outcome, sizeOf, does, opened}
+use Rattle.line.specs.Check.{fit, check, sound}
+use Rattle.line.specs.Calls.{step, orders, answers, after}
+use Rattle.line.specs.Agrees.{Lawful, Agrees}
+use Rattle.line.specs.Demands.{CheckSound, SoundOut, OrderSoundOut, AlwaysSound, RunAgrees, OpenedAgrees, Demand2, LineCounting, LineHanded, Demand3}
+use Rattle.line.proofs.Check.{Fit, check-sound}
+use Rattle.line.proofs.Guards.{step-does, orders-does}
+use Rattle.line.proofs.Sound.{does-lawful, opened-lawful}
+use Rattle.line.proofs.Follows.{does-follows, opened-agrees}
+
+-- ---- on a sound line the step is made
+
+module _ (z : Size) (l : Line) (w : Lawful z l) where
+  fits-own : Fit l
+  fits-own = rw (w .size) (w .fits)
+
+  made : (s : Step) → step l s ≡ does z l (decode s)
+  made s = rw (step-does l s fits-own (w .sound), w .size) refl
+
+  lawful-out : (s : Step) → Lawful z ((step l s) .line)
+  lawful-out s = rw (made s) (does-lawful z l (decode s) w)
+
+pub sound-out : SoundOut
+unfolding SoundOut
+sound-out z l s w = lawful-out z l w s
+
+pub order-sound-out : OrderSoundOut
+unfolding OrderSoundOut does
+order-sound-out z l a e w = rw (orders-does l a e (fits-own z l w) (w .sound), w .size) (does-lawful z l (order a e) w)
+
+run-lawful : (z : Size) (l : Line) (ss : List Step) → Lawful z l → Lawful z (after l ss)
+unfolding after
+run-lawful z l [] w = w
+run-lawful z l (s ∷ ss) w = run-lawful z ((step l s) .line) ss (lawful-out z l w s)
+
+pub always-sound : AlwaysSound
+unfolding AlwaysSound CheckSound
+always-sound z ss f =
+    let w = run-lawful z (opened z) ss (opened-lawful z f) in
+    check-sound (after (opened z) ss) .1 (fits-own z (after (opened z) ss) w, w .sound)
+
+-- ---- demand 2
+
+pub run-agrees : RunAgrees
+unfolding RunAgrees answers after B.answers B.after B.step
+run-agrees z l b [] g = (refl, g)
+run-agrees z l b (s ∷ ss) g =
+    let f = does-follows z l b (decode s) g in
+    let r = run-agrees z ((does z l (decode s)) .line) ((B.does z b (decode s)) .book) ss (f .1) in
+    rw (made z l (g .lawful) s) (ap₂ (λ (x : Answer) (xs : List Answer). x ∷ xs) (f .0) (r .0), r .1)
+
+pub opening-agrees : OpenedAgrees
+unfolding OpenedAgrees
+opening-agrees z f = opened-agrees z f
+
+pub demand2 : Demand2
+unfolding Demand2 RunAgrees
+demand2 z ss f = run-agrees z (opened z) (B.opened z) ss (opened-agrees z f) .0
+
+-- ---- what the book's theorems say of the line's own answers
+
+pub line-counting : LineCounting
+unfolding LineCounting Demand2 Counting
+line-counting z ss f = rw (demand2 z ss f) (counting z ss)
+
+pub line-handed : LineHanded
+unfolding LineHanded Demand2 Handed NeverTwice
+line-handed z ss f = rw (demand2 z ss f) (handed-over z ss, never-twice z ss)
+
+-- ---- demand 3
+
+pub demand3 : Demand3
+unfolding Demand3 Demand2 Bounded
+demand3 z ss f = rw (demand2 z ss f) (bounded z ss)
