@@ -1,7 +1,7 @@
 -- Laws of a choice by a test: to prove something of it, of two of them side by side, and to put a known test in.
 use mathlib.Core.Path.{_≡_, refl, sym, subst}
 use mathlib.Core.Logic.{_≢_}
-use mathlib.Core.Bool.{Bool, true, false, not, _&&_, _||_}
+use mathlib.Core.Bool.{Bool, true, false, not, _&&_}
 use Prim.Native.Nat.{ℕ, _≤_, _<_}
 use native.Mathlib.Omega.{arith}
 use lib.Dec.{T, T-not, ltb, leb, eqb, ltb→lt, lt→ltb, nltb→le, leb→le, le→leb, eqb→eq, eqb-refl}

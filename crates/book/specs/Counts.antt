@@ -1,5 +1,4 @@
 -- What is counted: from the answers of a run, and in the book after it.
-use mathlib.Core.Bool.{not}
 use mathlib.Core.List.{List, [], _∷_, _++_}
 use Prim.Native.Nat.{ℕ, _+_, _-_, _*_, _/_}
 use Rattle.words.specs.declared.Answer.{Answer}

@@ -1,7 +1,8 @@
 -- A sound line, turn by turn: what rules 4 to 7 say of the record of each turn of the window, in place of each block.
-use mathlib.Core.Path.{_≡_, refl, sym, ap, _∙_}
+use mathlib.Core.Path.{_≡_, refl, ap, _∙_}
 use mathlib.Core.Logic.{_≢_}
-use Prim.Native.Nat.{ℕ, _+_, _-_, _*_, _/_, _%_, _≤_, _<_}
+use mathlib.Core.List.{List}
+use Prim.Native.Nat.{ℕ, _+_, _-_, _*_, _≤_, _<_}
 use native.Mathlib.Nat.{mod-lt, mod-le, mod-eq-of-lt}
 use native.Mathlib.Omega.{arith}
 use lib.Dec.{T, leb, eqb, leb→le, eqb→eq}
@@ -11,11 +12,11 @@ use Rattle.book.specs.Total.{total}
 use Rattle.book.specs.Sizes.{Size, fits, within, blockOf, roundOf, currentTurn}
 use Rattle.book.proofs.Choice.{and-first, and-second}
 use Rattle.book.proofs.Turns.{current-low, current-high, current-block}
-use Rattle.line.specs.Line.{Line, Block, unused, sizeOf, deskOf, recordOf}
+use Rattle.line.specs.Line.{Line, LentDesk, Block, unused, sizeOf, deskOf, recordOf}
 use Rattle.line.specs.Rules.{heldIn, Rule4, Rule5, Rule6, Rule7, Sound}
 use Rattle.line.specs.Check.{fit}
 use Rattle.line.specs.Agrees.{Lawful}
-use Rattle.line.proofs.Current.{Window, current→window, window→current}
+use Rattle.line.proofs.Current.{Window, window→current}
 
 -- ---- the numbers that fit
 
@@ -69,21 +70,29 @@ entries-of z l w =
 
 -- ---- a turn of the window
 
+-- how many desks have claimed or fetched in turn t
+abbrev pub held : List LentDesk → ℕ → ℕ
+held ds t = total (λ x. heldIn t (deskOf x)) ds
+
+-- record c stands for turn t, where P is p and the desks are ds
+pub record Stands (z : Size) (p : ℕ) (ds : List LentDesk) (t : ℕ) (c : Block) : Type 0 where
+  pub round : c .round ≡ roundOf z t
+  pub fits : c .written ≤ z .ne
+  pub full : t < p → c .written ≡ z .ne
+  pub some : t ≡ p → p ≢ 0 → 1 ≤ c .written
+  pub claims : c .claimed ≤ c .written
+  pub zeroth : t ≡ 0 → c .claimed ≡ 0
+  pub holders : c .claimed ≡ c .finished + held ds t
+
 module _ (l : Line) where
   abbrev z : Size
   z = sizeOf (l .head)
 
-  abbrev here : ℕ → Block
+  abbrev pub here : ℕ → Block
   here t = recordOf z (l .table) t
 
-  pub record Cell (t : ℕ) : Type 0 where
-    pub round : (here t) .round ≡ roundOf z t
-    pub fits : (here t) .written ≤ l .head .ne
-    pub full : t < l .head .p → (here t) .written ≡ l .head .ne
-    pub some : t ≡ l .head .p → l .head .p ≢ 0 → 1 ≤ (here t) .written
-    pub claims : (here t) .claimed ≤ (here t) .written
-    pub zeroth : t ≡ 0 → (here t) .claimed ≡ 0
-    pub holders : (here t) .claimed ≡ (here t) .finished + total (λ x. heldIn t (deskOf x)) (l .head .desks)
+  abbrev pub Cell : ℕ → Type 0
+  Cell t = Stands z (l .head .p) (l .head .desks) t (here t)
 
   pub cell : 0 < l .head .nb → Sound l → (t : ℕ) → Window z (l .head .p) t → Cell t
   unfolding recordOf

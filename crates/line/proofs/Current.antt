@@ -1,17 +1,17 @@
 -- The turns that are their blocks' current ones are the NB turns up to P; and what a change of one record leaves.
-use mathlib.Core.Path.{_≡_, sym, ap, _∙_, refl}
+use mathlib.Core.Path.{_≡_, sym, ap, _∙_}
 use mathlib.Core.Logic.{_≢_}
 use mathlib.Core.List.{List}
 use Prim.Native.Nat.{ℕ, _+_, _*_, _/_, _%_, _≤_, _<_}
 use native.Mathlib.Nat.{mod-lt, mod-eq-of-lt}
 use native.Mathlib.Omega.{arith}
-use lib.Dec.{T, ltb, eqb, ltb→lt, lt→ltb, eqb→eq}
-use lib.ListN.{length, set, length-set}
+use lib.Dec.{eqb, ltb→lt, lt→ltb, eqb→eq}
+use lib.ListN.{length, set}
 use lib.Seq.{getD-set-same, getD-set-other}
 use lib.Arith.{digits-div, digits-mod, digits-lt}
 use Rattle.book.specs.Sizes.{Size, blockOf, currentTurn}
-use Rattle.book.proofs.Choice.{T→true, eq→eqb, neq→eqb}
-use Rattle.book.proofs.Turns.{current-low, current-high, current-self, block-apart}
+use Rattle.book.proofs.Choice.{cases, eq→eqb, neq-test}
+use Rattle.book.proofs.Turns.{current-low, current-self, block-apart}
 use Rattle.line.specs.Line.{Block, unused, recordOf, entryOf}
 
 module _ (z : Size) where
@@ -54,3 +54,12 @@ module _ (z : Size) where
   pub entry-lt : (t p : ℕ) → 0 < z .nb → p < z .ne → entryOf z t p < z .nb * z .ne
   unfolding entryOf
   entry-lt t p pos h = digits-lt (mod-lt t pos) h
+
+-- what holds of the new record of turn t, and of every other turn of the window with the record that it had
+pub each-turn : (z : Size) (tb : List Block) (p t : ℕ) (c : Block) → 0 < z .nb → length tb ≡ z .nb → Window z p t
+    → (Q : ℕ → Block → Type 0) → Q t c → ((u : ℕ) → Window z p u → u ≢ t → Q u (recordOf z tb u))
+    → (u : ℕ) → Window z p u → Q u (recordOf z (set tb (blockOf z t) c) u)
+each-turn z tb p t c pos b w Q new old u v =
+    cases (eqb u t)
+    (λ s. rw (eqb→eq u t s, record-same z tb t c pos b) new)
+    (λ s. let n = neq-test u t s in rw (record-apart z tb t c p u w v n) (old u v n))

@@ -6,40 +6,26 @@ use mathlib.Core.Path.{_≡_, refl, sym, ap, _∙_, subst}
 use mathlib.Core.List.{List, [], _∷_, map}
 use Prim.Native.Nat.{ℕ, zero, suc, _≤_, _<_}
 use native.Mathlib.Omega.{arith}
-use lib.Dec.{ltb, eqb, ltb→lt, lt→ltb, nltb→le, eqb→eq}
+use lib.Dec.{ltb, ltb→lt, lt→ltb, nltb→le}
 use lib.ListN.{length, getD, set, take, length-take, List·getD-map, List·getD-eq-default}
-use lib.Seq.{getD-take, getD-set-same, getD-set-other, take-set-lt}
+use lib.Seq.{getD-take, take-set-lt}
 use Rattle.book.specs.Choice.{if_then_else_}
 use Rattle.book.specs.Total.{total}
 use Rattle.book.specs.Sizes.{Size}
 use Rattle.book.specs.Steps.{Desk, idle, looked, claimed, fetched, carried}
 use Rattle.book.specs.Book.{Row, Book, rowAt, rowOf}
 use Rattle.book.specs.Book as B
-use Rattle.book.proofs.Choice.{cases, same-test, neq-test}
+use Rattle.book.proofs.Choice.{cases, same-test}
 use Rattle.book.proofs.Total.{total-none, any-total}
 use Rattle.book.proofs.Rows.{row-turn}
-use Rattle.line.specs.Line.{Line, LentDesk, Head, Block, Spot, nowhere, deskOf, lent, deskAt, sizeOf, withDesk, recordOf, isBusy}
+use Rattle.line.specs.Line.{Line, LentDesk, Block, Spot, nowhere, deskOf, lent, deskAt, sizeOf, withDesk, recordOf, isBusy}
 use Rattle.line.specs.Rules.{heldIn, DeskRule}
 use Rattle.line.specs.Agrees.{asRow, front, Agrees}
 use Rattle.line.proofs.Current.{Window, current→window}
+use Rattle.line.proofs.Kept.{desk-lent, each-desk}
 use Rattle.line.proofs.Front.{Matches, front-same, sizes, pos, near, put-window, current}
 
--- ---- a desk is written, and read
-
-lent-desk : (x : Desk Spot) → deskOf (lent x) ≡ x
-unfolding deskOf
-lent-desk idle = refl
-lent-desk (looked s) = refl
-lent-desk (claimed s) = refl
-lent-desk (fetched s) = refl
-
--- what holds of the desk that is written, and of every desk before, holds of every desk after
-by-desk : (P : Desk Spot → Type 0) (h : Head) (d : ℕ) (x : Desk Spot) → d < length (h .desks)
-    → P x → ((e : ℕ) → P (deskAt h e)) → (e : ℕ) → P (deskAt (withDesk h d x) e)
-by-desk P h d x i new old e =
-    cases (eqb e d)
-    (λ s. rw (eqb→eq e d s, getD-set-same (h .desks) d (lent x) (lent idle) i, lent-desk x) new)
-    (λ s. rw (getD-set-other (h .desks) d e (lent x) (lent idle) (neq-test e d s)) (old e))
+-- ---- a desk that looked
 
 abbrev pub IsLooked : Desk Spot → Type 0
 IsLooked idle = ⊥
@@ -94,7 +80,7 @@ module _ (l : Line) (b : Book) (g : Agrees (sizeOf (l .head)) l b) where
 
   desks-set : (d : ℕ) (x : Desk Spot) → d < z .t → set (b .desks) d (asRow z x) ≡ map asDesk (take (z .t) (set (l .head .desks) d (lent x)))
   desks-set d x h =
-      rw (g .desks, take-set-lt (z .t) (l .head .desks) d (lent x) h, map-set asDesk (take (z .t) (l .head .desks)) d (lent x), lent-desk x)
+      rw (g .desks, take-set-lt (z .t) (l .head .desks) d (lent x) h, map-set asDesk (take (z .t) (l .head .desks)) d (lent x), desk-lent x)
 
   -- what rule 3 says of it: a spot that it holds is current, and its label is written
   pub rule : (d : ℕ) (x : Desk Spot) → deskAt (l .head) d ≡ x → DeskRule l x
@@ -168,8 +154,8 @@ module _ (l : Line) (b : Book) (g : Agrees (sizeOf (l .head)) l b) where
       labels = λ s low high i. let w : Window z p (s .turn) = record { low = low; high = high } in
           g .labels s low high (rw (kept (s .turn) w .0) at i) ∙ sym (label (rowOf z (s .turn) (s .place)));
       marks = marks;
-      looks = by-desk (Sees tb) (l .head) d x desk-in sees
-          (λ e s r i. omega (arith, g .looks e s r i, kept (s .turn) (near l b g (s .turn) (omega arith) (rule e (looked s) r .0))));
+      looks = each-desk (l .head) d x desk-in (λ _. Sees tb) sees
+          (λ e _ s r i. omega (arith, g .looks e s r i, kept (s .turn) (near l b g (s .turn) (omega arith) (rule e (looked s) r .0))));
     }
 
     -- no row is marked, and claimed stands too

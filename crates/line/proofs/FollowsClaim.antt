@@ -21,9 +21,9 @@ use Rattle.book.proofs.Choice.{by-test₂, same-test, eq→eqb, le→true, and-
 use Rattle.book.proofs.Rows.{written-is, row-turn, mark-length, mark-label}
 use Rattle.line.specs.Line.{Line, Block, Spot, deskAt, sizeOf, oneClaimed, recordOf, winnable, claimStep}
 use Rattle.line.specs.Agrees.{front, Agrees}
-use Rattle.line.proofs.Current.{Window, record-same, record-apart, window→current}
+use Rattle.line.proofs.Current.{Window, record-same, record-apart, window→current, each-turn}
 use Rattle.line.proofs.Cells.{blocks-of}
-use Rattle.line.proofs.Front.{Matches, Follows, front-above, front-same, mark-front, by-record, pos, near, written-same}
+use Rattle.line.proofs.Front.{Matches, Follows, front-above, front-same, mark-front, pos, near, written-same}
 use Rattle.line.proofs.Desks.{rule, sees-not, changed, desk-matches, alone-matches}
 
 -- two tests in the other order, where the second counts only if the first holds
@@ -121,8 +121,8 @@ module _ (l : Line) (b : Book) (g : Agrees (sizeOf (l .head)) l b) (d : ℕ) (h 
     kept : (u : ℕ) → Window z p u
         → ((recordOf z tb u) .written ≡ (recordOf z (l .table) u) .written) × ((recordOf z (l .table) u) .claimed ≤ (recordOf z tb u) .claimed)
     kept =
-        by-record z (λ u x. (x .written ≡ (recordOf z (l .table) u) .written) × ((recordOf z (l .table) u) .claimed ≤ x .claimed)) (l .table) p t (oneClaimed c)
-        (pos l b g) (blocks-of z l (g .lawful)) window (refl, omega arith) (λ u _ _. (refl, le-refl ((recordOf z (l .table) u) .claimed)))
+        each-turn z (l .table) p t (oneClaimed c) (pos l b g) (blocks-of z l (g .lawful)) window
+        (λ u x. (x .written ≡ (recordOf z (l .table) u) .written) × ((recordOf z (l .table) u) .claimed ≤ x .claimed)) (refl, omega arith) (λ u _ _. (refl, le-refl ((recordOf z (l .table) u) .claimed)))
 
     front-won : front z m t ≡ suc (s .place)
     front-won =

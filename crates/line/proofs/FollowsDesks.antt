@@ -20,10 +20,10 @@ use Rattle.book.proofs.Choice.{same-test, neq-test}
 use Rattle.book.proofs.Turns.{current-low, current-high}
 use Rattle.line.specs.Line.{Line, Block, Spot, nowhere, deskAt, sizeOf, oneFinished, recordOf, lookStep, fetchStep, finishStep, taken, deskStep}
 use Rattle.line.specs.Agrees.{asRow, Agrees}
-use Rattle.line.proofs.Current.{Window}
+use Rattle.line.proofs.Current.{Window, each-turn}
 use Rattle.line.proofs.Cells.{blocks-of}
 use Rattle.line.proofs.Verdicts.{by-verdict₂, refuses-not, admitted-takes, lookable-same, lookable-takes}
-use Rattle.line.proofs.Front.{Follows, stays, by-record, pos, current, put-turn, written-same, first-above}
+use Rattle.line.proofs.Front.{Follows, stays, pos, current, put-turn, written-same, first-above}
 use Rattle.line.proofs.Desks.{desk-same, rule, held-current, held-written, sees-not, sees-place, quiet-matches, alone-matches}
 use Rattle.line.proofs.FollowsClaim.{claim-follows}
 
@@ -102,8 +102,8 @@ module _ (l : Line) (b : Book) (g : Agrees (sizeOf (l .head)) l b) where
         record {
           same = refl;
           matches = quiet-matches l b g d h idle tb
-              (by-record z (λ u x. (x .written ≡ (here u) .written) × (x .claimed ≡ (here u) .claimed)) (l .table) p (s .turn) c
-              (pos l b g) (blocks-of z l (g .lawful)) w (refl, refl) (λ u _ _. (refl, refl)))
+              (each-turn z (l .table) p (s .turn) c (pos l b g) (blocks-of z l (g .lawful)) w
+              (λ u x. (x .written ≡ (here u) .written) × (x .claimed ≡ (here u) .claimed)) (refl, refl) (λ u _ _. (refl, refl)))
               (sees-not l b g tb idle (λ x. x));
         }
 

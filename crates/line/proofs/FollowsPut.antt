@@ -24,12 +24,12 @@ use Rattle.book.proofs.Turns.{block-apart}
 use Rattle.line.specs.Line.{Line, Block, Spot, sizeOf, oneWritten, recordOf, entryOf, labelAt, labelled}
 use Rattle.line.specs.Line.{isBusy, mayPut, stored, putStep, putMany, orderStep}
 use Rattle.line.specs.Agrees.{front, Lawful, Agrees}
-use Rattle.line.proofs.Current.{Window, record-same, record-apart, entry-inj, entry-lt}
+use Rattle.line.proofs.Current.{Window, record-same, record-apart, entry-inj, entry-lt, each-turn}
 use Rattle.line.proofs.Cells.{blocks-of, entries-of}
 use Rattle.line.proofs.Sound.{stored-lawful}
 use Rattle.line.proofs.Verdicts.{by-verdict₂, placeable-same}
 use Rattle.line.proofs.Front.{Matches, Follows, matches-of, agrees-of, stays, at-size}
-use Rattle.line.proofs.Front.{front-below, front-here, front-above, front-past, front-is, by-record}
+use Rattle.line.proofs.Front.{front-below, front-here, front-above, front-past, front-is}
 use Rattle.line.proofs.Front.{sizes, pos, below, near, put-window, current, put-turn, written-same}
 use Rattle.line.proofs.Desks.{rule, busy-same}
 
@@ -92,7 +92,7 @@ module _ (l : Line) (b : Book) (g : Agrees (sizeOf (l .head)) l b) where
     -- claimed is the front as it was, and so no front moves
     claimed-front : (u : ℕ) → k < u → u ≤ t → (recordOf z (m .table) u) .claimed ≡ front z l u
     claimed-front u h i =
-        by-record z (λ v x. k < v → x .claimed ≡ front z l v) (l .table) t t c (pos l b g) (blocks-of z l (g .lawful)) new-window (e .claims)
+        each-turn z (l .table) t t c (pos l b g) (blocks-of z l (g .lawful)) new-window (λ v x. k < v → x .claimed ≡ front z l v) (e .claims)
         (λ v w n j. sym (front-above z l v j (omega (arith, w .low, e .to)))) u (record { low = i; high = omega (arith, e .wide) }) h
 
     front-put : (u : ℕ) → front z m u ≡ front z l u

@@ -9,10 +9,10 @@ use Prim.Native.Nat.{ℕ, suc, _+_, _-_, _*_, _≤_, _<_}
 use native.Mathlib.Nat.{le-refl, mul-le-mul-right}
 use native.Mathlib.Omega.{arith}
 use lib.Dec.{ltb, leb, eqb, ltb→lt, lt→ltb, leb→le, nleb→lt, eqb→eq}
-use lib.ListN.{length, set, take}
+use lib.ListN.{length, take}
 use lib.Arith.{digits-div}
 use Rattle.words.specs.declared.Answer.{Answer}
-use Rattle.book.specs.Sizes.{Size, blockOf}
+use Rattle.book.specs.Sizes.{Size}
 use Rattle.book.specs.Steps.{looked}
 use Rattle.book.specs.Book.{Row, Book, rowAt, rowOf, rowsOf, marked, putTurn, written, first, waits}
 use Rattle.book.specs.Book as B
@@ -22,7 +22,7 @@ use Rattle.book.proofs.Turns.{row-inj}
 use Rattle.line.specs.Line.{Line, Block, Spot, deskOf, deskAt, sizeOf, recordOf, labelAt}
 use Rattle.line.specs.Line as L
 use Rattle.line.specs.Agrees.{asRow, front, Lawful, Agrees}
-use Rattle.line.proofs.Current.{Window, record-same, record-apart}
+use Rattle.line.proofs.Current.{Window}
 use Rattle.line.proofs.Cells.{Valid, valid-of, Cell, cell}
 
 module _ (z : Size) where
@@ -123,15 +123,6 @@ module _ (z : Size) where
       (λ x. lt→ltb q p (omega (arith, ltb→lt q (suc p) x)))))))
       (λ s. let n = neq-test u t s in
       rw (mark-other rs (rowOf z t p) (rowOf z u q) (λ x. n (row-inj z u q t p h fits x .0)), other u n) (marks u q h))
-
-  -- ---- one record is replaced: what holds of it, and of the other turns of the window before, holds of all of them after
-
-  pub by-record : (P : ℕ → Block → Type 0) (tb : List Block) (p t : ℕ) (c : Block) → 0 < z .nb → length tb ≡ z .nb → Window z p t
-      → P t c → ((u : ℕ) → Window z p u → u ≢ t → P u (recordOf z tb u)) → (u : ℕ) → Window z p u → P u (recordOf z (set tb (blockOf z t) c) u)
-  by-record P tb p t c pos many w new old u v =
-      cases (eqb u t)
-      (λ s. rw (eqb→eq u t s, record-same z tb t c pos many) new)
-      (λ s. let n = neq-test u t s in rw (record-apart z tb t c p u w v n) (old u v n))
 
 -- ---- a line and a book that agree, turn by turn
 

@@ -14,10 +14,11 @@ use Rattle.book.specs.Sizes.{Size, blockOf}
 use Rattle.book.specs.Steps.{Desk, idle, looked, claimed, fetched}
 use Rattle.book.proofs.Choice.{cases, neq-test, neq→eqb, eqb-same}
 use Rattle.book.proofs.Total.{total-set}
-use Rattle.line.specs.Line.{Line, LentDesk, Block, Head, Spot, lent, deskOf, deskAt, withDesk, withHead, sizeOf, recordOf}
+use Rattle.line.specs.Line.{Line, LentDesk, Block, Head, Spot, lent, deskOf, deskAt, withDesk, withHead, sizeOf}
 use Rattle.line.specs.Rules.{heldIn, Holds, Current, DeskRule, Rule3}
-use Rattle.line.proofs.Current.{Window, current→window, record-same, record-apart, record-later}
-use Rattle.line.proofs.Told.{holders, Stands, here, In, Told, some-block}
+use Rattle.line.proofs.Current.{current→window, record-later, each-turn}
+use Rattle.line.proofs.Cells.{held, Stands, here}
+use Rattle.line.proofs.Told.{In, Told, some-block}
 
 -- ---- a desk as its numbers
 
@@ -70,7 +71,7 @@ module _ (h : Head) (d : ℕ) (x : Desk Spot) (there : d < length (h .desks)) wh
       (λ s. rw (eqb→eq e d s, desk-own) new)
       (λ s. let n = neq-test e d s in rw (desk-other e n) (old e n))
 
-  pub holders-set : (t : ℕ) → holders (set (h .desks) d (lent x)) t + heldIn t (deskAt h d) ≡ holders (h .desks) t + heldIn t x
+  pub holders-set : (t : ℕ) → held (set (h .desks) d (lent x)) t + heldIn t (deskAt h d) ≡ held (h .desks) t + heldIn t x
   holders-set t = rw (desk-lent x) at (total-set (λ (y : LentDesk). heldIn t (deskOf y)) (h .desks) d (lent x) (lent idle) there)
 
 -- no spot is held by both
@@ -121,17 +122,8 @@ desk-kept l l′ e m saw (fetched s) held o = let k = held s refl (o .0) in (k .
 
 -- ---- the record of one turn changes
 
--- what holds of the new record of turn t, and of every other turn of the window with the record that it had
-pub each-turn : (z : Size) (tb : List Block) (p t : ℕ) (c : Block) → 0 < z .nb → length tb ≡ z .nb → Window z p t
-    → (Q : ℕ → Block → Type 0) → Q t c → ((u : ℕ) → Window z p u → u ≢ t → Q u (recordOf z tb u))
-    → (u : ℕ) → Window z p u → Q u (recordOf z (set tb (blockOf z t) c) u)
-each-turn z tb p t c pos b w Q new old u v =
-    cases (eqb u t)
-    (λ s. rw (eqb→eq u t s, record-same z tb t c pos b) new)
-    (λ s. let n = neq-test u t s in rw (record-apart z tb t c p u w v n) (old u v n))
-
 -- the same record under desks that hold as many spots of its turn
-pub stands-by : {z : Size} {p : ℕ} {ds ds′ : List LentDesk} {t : ℕ} {c : Block} → holders ds′ t ≡ holders ds t → Stands z p ds t c → Stands z p ds′ t c
+pub stands-by : {z : Size} {p : ℕ} {ds ds′ : List LentDesk} {t : ℕ} {c : Block} → held ds′ t ≡ held ds t → Stands z p ds t c → Stands z p ds′ t c
 stands-by e s = record {
   round = s .round;
   fits = s .fits;
@@ -139,7 +131,7 @@ stands-by e s = record {
   some = s .some;
   claims = s .claims;
   zeroth = s .zeroth;
-  held = rw e (s .held);
+  holders = rw e (s .holders);
 }
 
 abbrev pub withDesks : Head → List LentDesk → Head
@@ -181,7 +173,7 @@ module _ (l : Line) (g : Told l) (t : ℕ) (c : Block) (r : Grows l t c) (es : L
 
   -- and the desks are now ds, which hold as many spots of every other turn as before
   pub told-record : (ds : List LentDesk) → length ds ≡ 16 → length es ≡ length (l .entries) → Stands z (l .head .p) ds t c
-      → ((u : ℕ) → u ≢ t → holders ds u ≡ holders (l .head .desks) u)
+      → ((u : ℕ) → u ≢ t → held ds u ≡ held (l .head .desks) u)
       → Rule3 (withHead l′ (withDesks (l .head) ds)) → Told (withHead l′ (withDesks (l .head) ds))
   told-record ds many same new others three =
       let k : In l (l .head .k) = record { low = g .one .below; high = omega (arith, g .one .near) } in

@@ -1,9 +1,7 @@
 -- Every run: sound in, sound out; the line's answers are the book's; and so counting, "never twice" and the bound hold of
 -- the line's own answers. One step is proofs/Sound.antt and proofs/Follows.antt; here they are added up over a list of steps.
-use mathlib.Core.Path.{_≡_, refl, sym, ap₂}
+use mathlib.Core.Path.{_≡_, refl, ap₂}
 use mathlib.Core.List.{List, [], _∷_}
-use Prim.Native.Nat.{ℕ}
-use lib.Dec.{T}
 use Rattle.words.specs.declared.Answer.{Answer}
 use Rattle.book.specs.Sizes.{Size, fits}
 use Rattle.book.specs.Steps.{Step, order, decode}
@@ -12,10 +10,10 @@ use Rattle.book.specs.Demands.{Counting, NeverTwice, Handed, Bounded}
 use Rattle.book.proofs.Counting.{counting, never-twice}
 use Rattle.book.proofs.Handed.{handed-over}
 use Rattle.book.proofs.Bound.{bounded}
-use Rattle.line.specs.Line.{Line, Outcome, sizeOf, does, opened}
-use Rattle.line.specs.Check.{fit, check, sound}
-use Rattle.line.specs.Calls.{step, orders, answers, after}
-use Rattle.line.specs.Agrees.{Lawful, Agrees}
+use Rattle.line.specs.Line.{Line, does, opened}
+use Rattle.line.specs.Check.{sound}
+use Rattle.line.specs.Calls.{step, answers, after}
+use Rattle.line.specs.Agrees.{Lawful}
 use Rattle.line.specs.Demands.{CheckSound, SoundOut, OrderSoundOut, AlwaysSound, RunAgrees, OpenedAgrees, Demand2, LineCounting, LineHanded, Demand3}
 use Rattle.line.proofs.Check.{Fit, check-sound}
 use Rattle.line.proofs.Guards.{step-does, orders-does}

@@ -13,8 +13,8 @@ use Rattle.book.proofs.Total.{total-replicate, replicate-at}
 use Rattle.line.specs.Line.{Line, LentDesk, lent, deskOf, deskAt, unused, recordOf, does, opened}
 use Rattle.line.specs.Rules.{heldIn}
 use Rattle.line.specs.Agrees.{Lawful}
-use Rattle.line.proofs.Cells.{Valid, valid}
-use Rattle.line.proofs.Told.{Stands, Told, lawful}
+use Rattle.line.proofs.Cells.{Valid, valid, Stands}
+use Rattle.line.proofs.Told.{Told, lawful}
 use Rattle.line.proofs.Kept.{desk-lent}
 use Rattle.line.proofs.SoundPut.{put-lawful, order-lawful}
 use Rattle.line.proofs.SoundGet.{get-lawful}
@@ -49,7 +49,7 @@ module _ (z : Size) where
     some = λ _ n. absurd (n refl);
     claims = zero-le;
     zeroth = λ _. refl;
-    held = omega (arith, total-replicate (λ (x : LentDesk). heldIn t (deskOf x)) 16 (lent idle) (ap (heldIn t) (desk-lent idle)));
+    holders = omega (arith, total-replicate (λ (x : LentDesk). heldIn t (deskOf x)) 16 (lent idle) (ap (heldIn t) (desk-lent idle)));
   }
 
   opened-told : Valid z → Told (opened z)

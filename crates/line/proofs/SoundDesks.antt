@@ -21,7 +21,8 @@ use Rattle.line.specs.Line.{oneClaimed, oneFinished, refuse, lookStep, w
 use Rattle.line.specs.Rules.{heldIn, Holds, DeskRule}
 use Rattle.line.specs.Agrees.{Lawful}
 use Rattle.line.proofs.Current.{current→window, window→current, record-same}
-use Rattle.line.proofs.Told.{Stands, here, In, Told, told, some-block, lawful}
+use Rattle.line.proofs.Cells.{Stands, here}
+use Rattle.line.proofs.Told.{In, Told, told, some-block, lawful}
 use Rattle.line.proofs.Kept.{held-one, held-rule, holders-set, Apart, three-desk, stands-by, Grows, three-record, told-record}
 
 module _ (l : Line) (g : Told l) where
@@ -136,7 +137,7 @@ module _ (l : Line) (g : Told l) where
         some = o .some;
         claims = omega (arith, won .still, won .space);
         zeroth = λ k. absurd (omega (arith, won .above));
-        held = omega (arith, o .held, holders-set (l .head) d (claimed s) there t, held-one (claimed s) s refl, ap (heldIn t) e);
+        holders = omega (arith, o .holders, holders-set (l .head) d (claimed s) there t, held-one (claimed s) s refl, ap (heldIn t) e);
       }
 
       nobody : (i : ℕ) → i ≢ d → Apart (claimed s) (deskAt (l .head) i)
@@ -172,7 +173,7 @@ module _ (l : Line) (g : Told l) where
         some = o .some;
         claims = o .claims;
         zeroth = o .zeroth;
-        held = omega (arith, o .held, holders-set (l .head) d idle there (s .turn), held-one (fetched s) s refl, ap (heldIn (s .turn)) e);
+        holders = omega (arith, o .holders, holders-set (l .head) d idle there (s .turn), held-one (fetched s) s refl, ap (heldIn (s .turn)) e);
       }
 
       finish-lawful : Lawful z ((finishStep z l d s) .line)

@@ -11,7 +11,8 @@ use Rattle.book.specs.Sizes.{Size}
 use Rattle.book.proofs.Choice.{by-test, and-second}
 use Rattle.line.specs.Line.{Line, Spot, Outcome, sizeOf, withHead, getAt, reach, readAt, getStep}
 use Rattle.line.specs.Agrees.{Lawful}
-use Rattle.line.proofs.Told.{here, Told, told, lawful}
+use Rattle.line.proofs.Cells.{here}
+use Rattle.line.proofs.Told.{Told, told, lawful}
 
 module _ (l : Line) (g : Told l) where
   abbrev z : Size

@@ -20,9 +20,10 @@ use Rattle.line.specs.Line.{Line, LentDesk, Block, Spot, Outcome, lent, 
 use Rattle.line.specs.Line.{isBusy, mayPut, labelled, stored, putStep, putMany, orderStep}
 use Rattle.line.specs.Rules.{heldIn, Holds, DeskRule}
 use Rattle.line.specs.Agrees.{Lawful}
-use Rattle.line.proofs.Current.{current→window, window→current, record-apart, record-later}
-use Rattle.line.proofs.Told.{holders, Stands, here, In, Told, told, some-block, lawful}
-use Rattle.line.proofs.Kept.{desk-lent, held-one, held-none, held-rule, desk-kept, each-turn, Grows, three-record, told-record}
+use Rattle.line.proofs.Current.{current→window, window→current, record-apart, record-later, each-turn}
+use Rattle.line.proofs.Cells.{held, Stands, here}
+use Rattle.line.proofs.Told.{In, Told, told, some-block, lawful}
+use Rattle.line.proofs.Kept.{desk-lent, held-one, held-none, held-rule, desk-kept, Grows, three-record, told-record}
 
 module _ (l : Line) (g : Told l) where
   abbrev z : Size
@@ -51,7 +52,7 @@ module _ (l : Line) (g : Told l) where
       some = λ _ _. omega arith;
       claims = omega (arith, s .claims);
       zeroth = s .zeroth;
-      held = s .held;
+      holders = s .holders;
     }
 
     grows : Grows l p c
@@ -74,7 +75,7 @@ module _ (l : Line) (g : Told l) where
   held-in : (d : ℕ) (x : Spot) → Holds (deskAt (l .head) d) x → In l (x .turn)
   held-in d x h = current→window z p (x .turn) (some-block l g) (held-rule l (deskAt (l .head) d) x h (g .three .desks d) .0)
 
-  none-next : holders (l .head .desks) next ≡ 0
+  none-next : held (l .head .desks) next ≡ 0
   none-next =
       total-none (λ (y : LentDesk). heldIn next (deskOf y)) (l .head .desks) (lent idle)
       (λ d. held-none (deskAt (l .head) d) next (λ x h e. omega (arith, held-in d x h .low)))
@@ -82,7 +83,7 @@ module _ (l : Line) (g : Told l) where
   -- what the tests leave: K stays in the window, nobody holds a spot of turn Q, and the round is not worn
   record Free : Type 0 where
     near : next < l .head .k + z .nb
-    spare : (q : ℕ) → q + z .nb ≡ next → holders (l .head .desks) q ≡ 0
+    spare : (q : ℕ) → q + z .nb ≡ next → held (l .head .desks) q ≡ 0
     fresh : next < 65536 * z .nb
 
   module _ (a : ℕ) (full : z .ne ≤ (here l p) .written) (f : Free) where
@@ -124,7 +125,7 @@ module _ (l : Line) (g : Told l) where
       some = λ _ _. omega arith;
       claims = omega arith;
       zeroth = λ _. refl;
-      held = omega (arith, none-next);
+      holders = omega (arith, none-next);
     }
 
     full-upto : (u : ℕ) → In l u → (here l u) .written ≡ z .ne
@@ -143,7 +144,7 @@ module _ (l : Line) (g : Told l) where
           some = λ e. absurd (n e);
           claims = s .claims;
           zeroth = s .zeroth;
-          held = s .held;
+          holders = s .holders;
         }
 
     next-lawful : Lawful z l′
@@ -181,7 +182,7 @@ module _ (l : Line) (g : Told l) where
       by-test P (l .head .k ≤ᵇ q) (λ _. tt) (λ room.
       by-test P ((here l q) .finished <ᵇ (here l q) .claimed) (λ _. tt) (λ busy.
       let s = g .turns q (record { low = omega arith; high = omega arith }) in
-      let none : holders (l .head .desks) q ≡ 0 = omega (arith, s .held, nltb→le ((here l q) .finished) ((here l q) .claimed) busy) in
+      let none : held (l .head .desks) q ≡ 0 = omega (arith, s .holders, nltb→le ((here l q) .finished) ((here l q) .claimed) busy) in
       next-lawful a full (record {
         near = omega (arith, nleb→lt (l .head .k) q room);
         spare = λ u e. rw (let i : u ≡ q = omega arith in i) none;

@@ -20,7 +20,7 @@ use Rattle.line.specs.Line.{Line, Spot, Outcome, sizeOf, deskAt, lookSte
 use Rattle.line.specs.Rules.{Sound}
 use Rattle.line.specs.Check.{fit}
 use Rattle.line.specs.Calls.{isSeen, seenFrom, bit, maskOf, lowestFrom, views, surveys, survey, step}
-use Rattle.line.specs.Demands.{bitAt, ones, LeastBit, CheckSound, Surveys, SurveyTells}
+use Rattle.line.specs.Demands.{bitAt, ones, LeastBit, CheckSound, SurveyTells}
 use Rattle.line.proofs.Cells.{valid}
 use Rattle.line.proofs.Check.{check-sound}
 use Rattle.line.proofs.Guards.{step-does}

@@ -3,43 +3,23 @@
 -- lawful (`lawful`): a proof about a step gives these parts of the new line from those of the old one.
 -- All is over the line's own size, which every step leaves.
 use mathlib.Core.Path.{_≡_, refl}
-use mathlib.Core.Logic.{_≢_}
 use mathlib.Core.Bool.{_&&_}
-use mathlib.Core.List.{List}
-use Prim.Native.Nat.{ℕ, _+_, _*_, _≤_, _<_}
+use Prim.Native.Nat.{ℕ, _*_, _≤_, _<_}
 use native.Mathlib.Omega.{arith}
 use lib.Dec.{T, leb, eqb, le→leb}
 use lib.ListN.{length}
-use Rattle.book.specs.Total.{total}
-use Rattle.book.specs.Sizes.{Size, fits, within, roundOf}
+use Rattle.book.specs.Sizes.{Size, fits, within}
 use Rattle.book.proofs.Choice.{and-in, eq→eqb}
-use Rattle.line.specs.Line.{Line, LentDesk, Block, deskOf, unused, sizeOf, recordOf}
-use Rattle.line.specs.Rules.{heldIn, Rule1, Rule2, Rule3, Sound}
+use Rattle.line.specs.Line.{Line, unused, sizeOf}
+use Rattle.line.specs.Rules.{Rule1, Rule2, Rule3}
 use Rattle.line.specs.Check.{fit}
 use Rattle.line.specs.Agrees.{Lawful}
 use Rattle.line.proofs.Current.{Window}
-use Rattle.line.proofs.Cells.{Valid, valid-of, blocks-of, entries-of, Cell, cell, blank, rule4, rule5, rule6, rule7}
-
--- how many desks have claimed or fetched in turn t
-abbrev pub holders : List LentDesk → ℕ → ℕ
-holders ds t = total (λ x. heldIn t (deskOf x)) ds
-
--- record c stands for turn t, where P is p and the desks are ds
-pub record Stands (z : Size) (p : ℕ) (ds : List LentDesk) (t : ℕ) (c : Block) : Type 0 where
-  pub round : c .round ≡ roundOf z t
-  pub fits : c .written ≤ z .ne
-  pub full : t < p → c .written ≡ z .ne
-  pub some : t ≡ p → p ≢ 0 → 1 ≤ c .written
-  pub claims : c .claimed ≤ c .written
-  pub zeroth : t ≡ 0 → c .claimed ≡ 0
-  pub held : c .claimed ≡ c .finished + holders ds t
+use Rattle.line.proofs.Cells.{Valid, valid-of, blocks-of, entries-of, here, Cell, cell, blank, rule4, rule5, rule6, rule7}
 
 module _ (l : Line) where
   abbrev z : Size
   z = sizeOf (l .head)
-
-  abbrev pub here : ℕ → Block
-  here t = recordOf z (l .table) t
 
   -- t is a turn of the window
   abbrev pub In : ℕ → Type 0
@@ -53,21 +33,10 @@ module _ (l : Line) where
     pub one : Rule1 l
     pub two : Rule2 l
     pub three : Rule3 l
-    pub turns : (t : ℕ) → In t → Stands z (l .head .p) (l .head .desks) t (here t)
-    pub blanks : (u : ℕ) → l .head .p < u → u < z .nb → here u ≡ unused
+    pub turns : (t : ℕ) → In t → Cell l t
+    pub blanks : (u : ℕ) → l .head .p < u → u < z .nb → here l u ≡ unused
 
   -- ---- from a lawful line
-
-  stands : 0 < z .nb → Sound l → (t : ℕ) → In t → Stands z (l .head .p) (l .head .desks) t (here t)
-  stands pos s t w = let c = cell l pos s t w in record {
-    round = c .round;
-    fits = c .fits;
-    full = c .full;
-    some = c .some;
-    claims = c .claims;
-    zeroth = c .zeroth;
-    held = c .holders;
-  }
 
   pub told : Lawful z l → Told
   told w = let v = valid-of z l w in record {
@@ -78,7 +47,7 @@ module _ (l : Line) where
     one = w .sound .one;
     two = w .sound .two;
     three = w .sound .three;
-    turns = stands (omega arith) (w .sound);
+    turns = cell l (omega arith) (w .sound);
     blanks = blank l (w .sound);
   }
 
@@ -111,17 +80,6 @@ module _ (l : Line) (g : Told l) where
       let fc : T c = eq→eqb (length (l .entries)) (z′ .nb * z′ .ne) (g .room) in
       and-in (a && b) c (and-in a b (valid-fits z′ (g .valid)) fb) fc
 
-  cells : (t : ℕ) → In l t → Cell l t
-  cells t w = let c = g .turns t w in record {
-    round = c .round;
-    fits = c .fits;
-    full = c .full;
-    some = c .some;
-    claims = c .claims;
-    zeroth = c .zeroth;
-    holders = c .held;
-  }
-
   pub lawful : Lawful z′ l
   lawful = record {
     size = refl;
@@ -131,9 +89,9 @@ module _ (l : Line) (g : Told l) where
       one = g .one;
       two = g .two;
       three = g .three;
-      four = rule4 l some-block cells (g .blanks);
-      five = rule5 l some-block cells (g .blanks);
-      six = rule6 l some-block cells (g .blanks);
-      seven = rule7 l some-block cells (g .blanks);
+      four = rule4 l some-block (g .turns) (g .blanks);
+      five = rule5 l some-block (g .turns) (g .blanks);
+      six = rule6 l some-block (g .turns) (g .blanks);
+      seven = rule7 l some-block (g .turns) (g .blanks);
     };
   }

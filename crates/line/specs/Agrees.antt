@@ -1,6 +1,6 @@
 -- When a line and a book agree: the line is sound, and the book says the same of turns, places and labels.
 use mathlib.Core.Path.{_≡_}
-use mathlib.Core.List.{List, map}
+use mathlib.Core.List.{map}
 use Prim.Native.Nat.{ℕ, _+_, _*_, _≤_, _<_}
 use lib.Dec.{T}
 use lib.ListN.{length, take}
@@ -8,7 +8,7 @@ use Rattle.book.specs.Choice.{if_then_else_, _<ᵇ_, _≤ᵇ_, _≡ᵇ_}
 use Rattle.book.specs.Sizes.{Size}
 use Rattle.book.specs.Steps.{Desk, idle, looked, claimed, fetched}
 use Rattle.book.specs.Book.{Book, rowAt, rowOf}
-use Rattle.line.specs.Line.{Line, LentDesk, Spot, deskOf, deskAt, sizeOf, recordOf, labelAt}
+use Rattle.line.specs.Line.{Line, Spot, deskOf, deskAt, sizeOf, recordOf, labelAt}
 use Rattle.line.specs.Rules.{Sound}
 use Rattle.line.specs.Check.{fit}
 

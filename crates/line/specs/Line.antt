@@ -1,6 +1,6 @@
 -- The line: head, block table and entries, and what each step does to them. Turn t stands in block t mod NB.
-use mathlib.Core.Bool.{Bool, true, false, not, _&&_}
-use mathlib.Core.List.{List, [], _∷_}
+use mathlib.Core.Bool.{Bool, not, _&&_}
+use mathlib.Core.List.{List}
 use Prim.Native.Nat.{ℕ, zero, suc, _+_, _-_, _*_}
 use lib.ListN.{getD, set, replicate}
 use Rattle.words.specs.declared.Answer.{Answer}

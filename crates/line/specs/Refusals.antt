@@ -1,12 +1,12 @@
 -- When each refusal is given on a sound line: a sentence for each, in the order of the paper's table. A sentence also
 -- says that the tests before it passed.
 use mathlib.Core.Path.{_≡_}
-use mathlib.Core.Logic.{_≢_, _⊎_}
+use mathlib.Core.Logic.{_⊎_}
 use Prim.Native.Nat.{ℕ, zero, suc, _+_, _-_, _≤_, _<_}
 use Rattle.words.specs.declared.Refusal.{Refusal}
 use Rattle.words.specs.declared.Refusal.the-variants.{Unfit, Damaged, Badstep, Nodesk, Noblock, Stage, Owned, Nothing, Lost, Notlabel, Range, Worn, Full, Busy, Empty}
 use Rattle.book.specs.Sizes.{Size, roundOf, currentTurn}
-use Rattle.book.specs.Steps.{DeskStep, look, claim, fetch, finish, Deed, put, get, order, desk, unlisted, idle, looked}
+use Rattle.book.specs.Steps.{DeskStep, look, claim, fetch, finish, Deed, put, get, order, desk, unlisted, looked}
 use Rattle.book.specs.Verdicts.{takes, refuses, stage, column, atStage}
 use Rattle.line.specs.Line.{Line, Block, Spot, deskAt, sizeOf, recordOf, stored, mayPut}
 use Rattle.line.specs.Rules.{Current}
