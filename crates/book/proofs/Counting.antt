@@ -18,7 +18,7 @@ use Rattle.book.specs.Steps.{Step, DeskStep, look, claim, fetch, finish,
 use Rattle.book.specs.Verdicts.{Verdict, judge, stage, column, atStage, noBlock, admitted, lookable}
 use Rattle.book.specs.Book.{Row, Book, Outcome, refuse, rowAt, deskAt, withDesk, append, marked, putTurn, rowOf, first, waits, mayPut, putStep, putMany, orderStep, readTurn}
 use Rattle.book.specs.Book.{getAt, getStep, lookStep, winnable, claimStep, fetchStep, finishStep, taken as deskTakes, deskStep, does, step, opened, answers, after, leaves}
-use Rattle.book.specs.Counts.{count, placed, got, taken, unfetchedBy, waitsBy, labelsOf, handed}
+use Rattle.book.specs.Counts.{count, placed, got, taken, unfetchedBy, waitsBy, handed}
 use Rattle.book.specs.Demands.{Counting, Placed, NeverTwice}
 use Rattle.book.proofs.Choice.{by-test, by-verdict, cases, T→true, not→false, and-first, and-second, neq-test, eqb-same}
 use Rattle.book.proofs.Total.{total-append, total-set, total-cong, total-replicate, replicate-at}
@@ -119,7 +119,7 @@ module _ (z : Size) where
 
   -- what a step's outcome owes
   abbrev Owes : ℕ → Book → Outcome → Type 0
-  Owes k b o = let n = count (o .answer) in Kept b k (o .book) (n .placed) (n .got + n .fetched) (labelsOf (o .answer)) (o .left)
+  Owes k b o = let n = count (o .answer) in Kept b k (o .book) (n .placed) (n .got + n .fetched) (n .labels) (o .left)
 
   -- ---- the kinds of change: of desks alone, a mark, one more row
 

@@ -10,27 +10,28 @@ use Rattle.book.specs.Sizes.{Size}
 use Rattle.book.specs.Steps.{Desk, idle, looked, claimed, fetched}
 use Rattle.book.specs.Book.{Row, Book}
 
--- what one answer adds: labels placed, got and fetched, claims won and lost
+-- what one answer adds: labels placed, got and fetched, claims won and lost; and the labels that it hands over
 pub record Count : Type 0 where
   pub placed : ℕ
   pub got : ℕ
   pub fetched : ℕ
   pub won : ℕ
   pub lost : ℕ
+  pub labels : List ℕ
 
-abbrev row : ℕ → ℕ → ℕ → ℕ → ℕ → Count
-row p g f w l = record { placed = p; got = g; fetched = f; won = w; lost = l }
+abbrev row : ℕ → ℕ → ℕ → ℕ → ℕ → List ℕ → Count
+row p g f w l out = record { placed = p; got = g; fetched = f; won = w; lost = l; labels = out }
 
 -- A refusal's value is an order's count, or 0; LOST is the refusal of number 9.
 abbrev pub count : Answer → Count
-count (Put label) = row 1 0 0 0 0
-count (Got label) = row 0 1 0 0 0
-count (Took label) = row 0 0 1 0 0
-count (Whole n) = row n 0 0 0 0
-count (Seen place) = row 0 0 0 0 0
-count (Claimed place) = row 0 0 0 1 0
-count Done = row 0 0 0 0 0
-count (Refused w n) = row n 0 0 0 (if (said (Refused w n)) .number ≡ᵇ 9 then 1 else 0)
+count (Put label) = row 1 0 0 0 0 []
+count (Got label) = row 0 1 0 0 0 (label ∷ [])
+count (Took label) = row 0 0 1 0 0 (label ∷ [])
+count (Whole n) = row n 0 0 0 0 []
+count (Seen place) = row 0 0 0 0 0 []
+count (Claimed place) = row 0 0 0 1 0 []
+count Done = row 0 0 0 0 0 []
+count (Refused w n) = row n 0 0 0 (if (said (Refused w n)) .number ≡ᵇ 9 then 1 else 0) []
 
 abbrev pub placed : List Answer → ℕ
 placed l = total (λ a. (count a) .placed) l
@@ -64,19 +65,9 @@ abbrev pub waiting : Book → ℕ
 waiting b = total waitsBy (b .rows)
 
 -- the labels that the answers hand over, in order
-abbrev pub labelsOf : Answer → List ℕ
-labelsOf (Put label) = []
-labelsOf (Got label) = label ∷ []
-labelsOf (Took label) = label ∷ []
-labelsOf (Whole n) = []
-labelsOf (Seen place) = []
-labelsOf (Claimed place) = []
-labelsOf Done = []
-labelsOf (Refused w n) = []
-
 unfoldable pub handed : List Answer → List ℕ
 handed [] = []
-handed (a ∷ l) = labelsOf a ++ handed l
+handed (a ∷ l) = (count a) .labels ++ handed l
 
 -- how often row n stands in a list of rows
 abbrev pub times : ℕ → List ℕ → ℕ
