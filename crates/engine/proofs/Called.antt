@@ -1,0 +1,79 @@
+-- A call on what was lent goes by what the check says: it is refused, or the line is sound and was lent with its NB records.
+use mathlib.Core.Path.{_≡_, refl, sym, ap, subst, subst⁻¹, _∙_}
+use mathlib.Core.List.{List}
+use Prim.Native.Nat.{ℕ}
+use lib.ListN.{length, replicate, length-replicate}
+use Rattle.words.specs.declared.Answer.the-variants.{Refused}
+use Rattle.words.specs.declared.Refusal.{Refusal}
+use Rattle.words.specs.declared.Refusal.the-variants.{Unfit, Damaged}
+use Rattle.book.specs.Sizes.{Size}
+use Rattle.book.specs.Steps.{Step, Deed, decode}
+use Rattle.book.specs.Verdicts.{Verdict, takes, refuses}
+use Rattle.line.specs.declared.Block.{Block}
+use Rattle.line.specs.declared.Head.{Head}
+use Rattle.line.specs.Line.{Line, sizeOf, orderStep, does}
+use Rattle.line.specs.declared.Checked.{Checked}
+use Rattle.line.specs.declared.Checked.the-variants.{Sound as sound, Unfit as unfit, Broken as broken}
+use Rattle.line.specs.Check.{check}
+use Rattle.line.specs.Calls.{passes, step, orders}
+use Rattle.line.specs.Agrees.{Lawful}
+use Rattle.line.proofs.Check.{Fit, Says, checked}
+use Rattle.line.proofs.Cells.{blocks-of}
+use Rattle.line.proofs.Guards.{step-does, orders-does}
+use Rattle.line.specs.Rules.{Sound}
+use Rattle.engine.specs.Lent.{lineOf, Given, gave}
+use Rattle.engine.specs.Promises.{Checks, Ready}
+use Rattle.engine.proofs.Entries.{check-entries}
+use Rattle.engine.proofs.LentMore.{lent-length, refused}
+use Rattle.engine.proofs.Takes.{taken-refused}
+
+module _ (h : Head) (t : List Block) (n : ℕ) (es : List ℕ) where
+  abbrev z : Size
+  z = sizeOf h
+
+  abbrev l : Line
+  l = lineOf h t n es
+
+  -- what a call gives that the check stops, and one that it lets go on to the line with its NB records
+  pub record Stops (w : Refusal) : Type 0 where
+    pub step-is : (s : Step) → record { answer = Refused w 0; head = h; table = t; entries = es } ≡ gave t n (step l s)
+    pub order-is : (a b : ℕ) → record { answer = Refused w 0; head = h; table = t; entries = es } ≡ gave t n (orders l a b)
+
+  pub record Goes : Type 0 where
+    pub ready : Ready h t es
+    pub step-is : (s : Step) (d : Deed) (o : Given) → d ≡ decode s → o ≡ gave t (h .nb) (does z (lineOf h t (h .nb) es) d) → o ≡ gave t n (step l s)
+    pub order-is : (a b : ℕ) (o : Given) → o ≡ gave t (h .nb) (orderStep z (lineOf h t (h .nb) es) a b) → o ≡ gave t n (orders l a b)
+
+  says-sound : (c : Checked) → Says l c → takes ≡ passes c → Fit l × Sound l
+  says-sound sound f e = f
+  says-sound unfit f e = absurd (taken-refused Unfit e)
+  says-sound (broken place rule) f e = absurd (taken-refused Damaged e)
+
+  module _ (e : takes ≡ passes (check l)) (long : length t ≡ 64) (many : length (h .desks) ≡ 16) where
+    lawful : Lawful z l
+    lawful = let f = says-sound (check l) (checked l) e in record { size = refl; fits = f .0; many = many; sound = f .1 }
+
+    all-lent : n ≡ h .nb
+    all-lent = sym (lent-length t n long) ∙ blocks-of z l lawful
+
+    lawfully : Ready h t es
+    lawfully = subst (λ (k : ℕ). Lawful z (lineOf h t k es)) all-lent lawful
+
+    on-line : Goes
+    on-line = record {
+      ready = lawfully;
+      step-is = λ s d o q p. subst⁻¹ (λ (k : ℕ). o ≡ gave t k (step (lineOf h t k es) s)) all-lent (rw (step-does (lineOf h t (h .nb) es) s (lawfully .fits) (lawfully .sound), ← q) p);
+      order-is = λ a b o p. subst⁻¹ (λ (k : ℕ). o ≡ gave t k (orders (lineOf h t k es) a b)) all-lent (rw (orders-does (lineOf h t (h .nb) es) a b (lawfully .fits) (lawfully .sound)) p);
+    }
+
+  -- c is what the check said, of as many entries as there are, and v what that lets pass
+  module _ (c : Checked) (q : Checks h t n (length es) c) (v : Verdict) (p : v ≡ passes c) where
+    verdict : v ≡ passes (check l)
+    verdict = p ∙ ap passes (q ∙ check-entries h t n (replicate (length es) 0) es (length-replicate (length es) 0))
+
+    pub stops : (w : Refusal) → v ≡ refuses w → Stops w
+    unfolding step orders
+    stops w e = record { step-is = λ s. rw (sym verdict ∙ e) (refused h t n es w); order-is = λ a b. rw (sym verdict ∙ e) (refused h t n es w) }
+
+    pub goes : length t ≡ 64 → length (h .desks) ≡ 16 → v ≡ takes → Goes
+    goes long many e = on-line (sym e ∙ verdict) long many

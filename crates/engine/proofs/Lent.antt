@@ -1,0 +1,39 @@
+-- Laws of the lent table: the first n of the 64 records are the line's, and the others stay as they are.
+use mathlib.Core.Path.{_≡_, refl}
+use mathlib.Core.List.{List}
+use Prim.Native.Nat.{ℕ, _≤_, _<_}
+use lib.ListN.{getD, set, take, drop, take-append-drop}
+use lib.Seq.{getD-take, take-set-lt, drop-set-lt}
+use Rattle.book.proofs.Choice.{le→true}
+use Rattle.words.specs.declared.Answer.{Answer}
+use Rattle.line.specs.declared.Block.{Block}
+use Rattle.line.specs.declared.Head.{Head}
+use Rattle.line.specs.Line.{says}
+use Rattle.engine.specs.Lent.{lentTable, lineOf, putBack, gave}
+
+module _ (n : ℕ) (few : n ≤ 64) where
+  pub lent-take : (t : List Block) → lentTable t n ≡ take n t
+  unfolding lentTable
+  lent-take t = rw (le→true n 64 few)
+
+  pub lent-at : (t : List Block) (i : ℕ) (d : Block) → i < n → getD (lentTable t n) i d ≡ getD t i d
+  lent-at t i d h = rw (lent-take t) (getD-take n t i d h)
+
+  pub lent-set : (t : List Block) (i : ℕ) (c : Block) → i < n → lentTable (set t i c) n ≡ set (lentTable t n) i c
+  lent-set t i c h = rw (lent-take t, lent-take (set t i c)) (take-set-lt n t i c h)
+
+  -- where u is t but for the lent records
+  pub put-back : (t u : List Block) → drop n u ≡ drop n t → putBack t n (lentTable u n) ≡ u
+  unfolding putBack
+  put-back t u e = rw (lent-take u, le→true n 64 few, ← e) (take-append-drop n u)
+
+  pub put-same : (t : List Block) → putBack t n (lentTable t n) ≡ t
+  put-same t = put-back t t refl
+
+  pub put-set : (t : List Block) (i : ℕ) (c : Block) → i < n → putBack t n (set (lentTable t n) i c) ≡ set t i c
+  put-set t i c h = rw (← lent-set t i c h) (put-back t (set t i c) (drop-set-lt n t i c h))
+
+  -- what a call gives back that leaves the others
+  pub gave-lent : (t u : List Block) (h : Head) (es : List ℕ) (a : Answer) → drop n u ≡ drop n t
+      → record { answer = a; head = h; table = u; entries = es } ≡ gave t n (says (lineOf h u n es) a)
+  gave-lent t u h es a e = rw (put-back t u e)

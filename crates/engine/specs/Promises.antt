@@ -1,0 +1,34 @@
+-- What each public call promises: its whole outcome, refusals included. And what the check has shown, which the
+-- functions behind it may ask for.
+use mathlib.Core.Path.{_≡_}
+use mathlib.Core.List.{List}
+use Prim.Native.Nat.{ℕ}
+use lib.ListN.{replicate}
+use Rattle.book.specs.Steps.{Step}
+use Rattle.line.specs.declared.Block.{Block}
+use Rattle.line.specs.declared.Head.{Head}
+use Rattle.line.specs.declared.Checked.{Checked}
+use Rattle.line.specs.declared.Views.{Views}
+use Rattle.line.specs.Line.{sizeOf}
+use Rattle.line.specs.Check.{check}
+use Rattle.line.specs.Calls.{step, orders, survey}
+use Rattle.line.specs.Agrees.{Lawful}
+use Rattle.engine.specs.declared.Went.{Went}
+use Rattle.engine.specs.Lent.{lineOf, given, gave}
+
+-- the check and the survey read no entry: any m entries
+abbrev pub Checks : Head → List Block → ℕ → ℕ → Checked → Type 0
+Checks h t n m r = r ≡ check (lineOf h t n (replicate m 0))
+
+abbrev pub Surveys : Head → List Block → ℕ → ℕ → Views → Type 0
+Surveys h t n m r = r ≡ survey (lineOf h t n (replicate m 0))
+
+abbrev pub Steps : Head → List Block → ℕ → List ℕ → Step → Went → List ℕ → Type 0
+Steps h t n es s r after = given r after ≡ gave t n (step (lineOf h t n es) s)
+
+abbrev pub Orders : Head → List Block → ℕ → List ℕ → ℕ → ℕ → Went → List ℕ → Type 0
+Orders h t n es a e r after = given r after ≡ gave t n (orders (lineOf h t n es) a e)
+
+-- a sound line, lent with its NB records
+abbrev pub Ready : Head → List Block → List ℕ → Type 0
+Ready h t es = Lawful (sizeOf h) (lineOf h t (h .nb) es)

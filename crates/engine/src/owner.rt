@@ -1,0 +1,316 @@
+// The owner's steps, on a line that the check has found sound: put, order and get.
+//
+// Only these three take the head and the table. Their parts take numbers and records, and promise what
+// specs/Owning.antt says of them.
+use crate::Went;
+use line::Block;
+use line::Head;
+use words::Answer;
+use words::Refusal;
+ghost use mathlib.Core.Path.{_≡_};
+ghost use Prim.Native.Nat.{_+_, _*_, _/_, _%_, _≤_, _<_};
+ghost use lib.ListN.{getD, set};
+ghost use Rattle.book.specs.Choice.{_<ᵇ_, _≡ᵇ_};
+ghost use Rattle.book.specs.Sizes.{isLabel, isOrder};
+ghost use Rattle.line.specs.Line.{sizeOf, putStep, orderStep, getStep};
+ghost use Rattle.engine.specs.Lent.{lineOf, given, gave};
+ghost use Rattle.engine.specs.Promises.{Ready};
+ghost use Rattle.engine.specs.Owning.{verdictOf, mayStart, mayPlace, roomOf, movesOn, Stands};
+
+// What the tests of a put say.
+pub enum Verdict {
+    Takes,
+    Refuses(Refusal),
+}
+
+// Where a label goes: turn, block and place; and the record that the block has after it.
+struct Room {
+    turn: u32,
+    block: usize,
+    place: u32,
+    after: Block,
+}
+
+// A number below 65,536 as a record holds it.
+fn narrow(x: u32) -> u16
+    requires { ⌜ x < 65536 ⌝ }
+    ensures { λ r. ⌜ r ≡ x ⌝ }
+{
+    x as u16
+}
+
+// The block in which a turn stands.
+pub fn block_of(turn: u32, nb: u32) -> usize
+    requires { ⌜ (1 ≤ nb) × (nb ≤ 64) ⌝ }
+    ensures { λ r. ⌜ (r ≡ turn % nb) × (r < 64) ⌝ }
+{
+    (turn % nb) as usize
+}
+
+// The block in which the next turn stands: a test, where block_of divides.
+fn block_after(block: usize, nb: u32) -> usize
+    requires { ⌜ (block < nb) × (nb ≤ 64) ⌝ }
+    ensures { λ r. ⌜ (r ≡ (block + 1) % nb) × (r < 64) ⌝ }
+{
+    let next = block + 1;
+    if next < (nb as usize) { next } else { 0 }
+}
+
+// The entry of a place in a block.
+fn entry(ne: u32, block: usize, place: u32) -> usize
+    requires { ⌜ (ne ≤ 64) × (block < 64) × (place < ne) ⌝ }
+    ensures { λ r. ⌜ r ≡ block * ne + place ⌝ }
+{
+    block * (ne as usize) + (place as usize)
+}
+
+pub fn read_label(entries: &[u32], ne: u32, block: usize, place: u32) -> u32
+    requires { ⌜ Stands ne block place (now entries) ⌝ }
+    ensures { λ r. ⌜ r ≡ getD (now (entries .entry)) (block * ne + place) 0 ⌝ }
+{
+    let i = entry(ne, block, place);
+    entries[i]
+}
+
+fn write_label(entries: &mut [u32], ne: u32, block: usize, place: u32, a: u32)
+    requires { ⌜ Stands ne block place (now entries) ⌝ }
+    ensures { λ _. ⌜ now (entries .exit) ≡ set (now (entries .entry)) (block * ne + place) a ⌝ }
+{
+    let i = entry(ne, block, place);
+    entries[i] = a;
+}
+
+fn is_label(a: u32) -> bool
+    ensures { λ r. ⌜ r ≡ isLabel a ⌝ }
+{
+    a <= 999999
+}
+
+fn is_order(a: u32, b: u32) -> bool
+    ensures { λ r. ⌜ r ≡ isOrder a b ⌝ }
+{
+    if a <= b { is_label(b) } else { false }
+}
+
+// Is there room for one label more in the block.
+fn has_room(written: u16, ne: u32) -> bool
+    ensures { λ r. ⌜ r ≡ (written <ᵇ ne) ⌝ }
+{
+    (written as u32) < ne
+}
+
+// Has the owner read the block to its end.
+fn is_read(place: u16, ne: u16) -> bool
+    ensures { λ r. ⌜ r ≡ (place ≡ᵇ ne) ⌝ }
+{
+    (place as u32) == (ne as u32)
+}
+
+// May turn `next` be started in a block whose record is `old`.
+fn may_start(nb: u32, k: u32, next: u32, old: Block) -> Verdict
+    requires { ⌜ 1 ≤ nb ⌝ }
+    ensures { λ r. ⌜ verdictOf r ≡ mayStart nb k next old ⌝ }
+{
+    if 65536 <= next / nb {
+        return Verdict::Refuses(Refusal::Worn);
+    }
+    if next < nb {
+        return Verdict::Takes;
+    }
+    if k <= next - nb {
+        return Verdict::Refuses(Refusal::Full);
+    }
+    if old.finished < old.claimed {
+        return Verdict::Refuses(Refusal::Busy);
+    }
+    Verdict::Takes
+}
+
+// May label a be put: the tests in the order of the refusals' numbers. `current` is the record of turn
+// P's block, `old` that of the block in which the next turn stands.
+fn may_put(nb: u32, ne: u32, p: u32, k: u32, current: Block, old: Block, a: u32) -> Verdict
+    requires { ⌜ (1 ≤ nb) × (p < 65536 * 64) ⌝ }
+    ensures { λ r. ⌜ verdictOf r ≡ mayPlace nb ne p k current old a ⌝ }
+{
+    if !is_label(a) {
+        return Verdict::Refuses(Refusal::Notlabel);
+    }
+    if has_room(current.written, ne) {
+        return Verdict::Takes;
+    }
+    may_start(nb, k, p + 1, old)
+}
+
+// Where a put's label goes. Turn P stands in block `here`, the next turn in block `next`.
+fn room_for(nb: u32, ne: u32, p: u32, here: usize, next: usize, current: Block) -> Room
+    requires { ⌜ (1 ≤ nb) × (ne ≤ 64) × (p < 65536 * 64) ⌝ }
+    requires { ⌜ (here < 64) × (next < 64) ⌝ }
+    requires { ⌜ (ne ≤ current .written → (p + 1) / nb < 65536) ⌝ }
+    ensures { λ r. ⌜ (r ≡ roomOf nb ne p here next current) × (r .block < 64) ⌝ }
+{
+    let written = current.written;
+    let place = written as u32;
+    if has_room(written, ne) {
+        let mut after = current;
+        after.written = written + 1;
+        return Room {
+            turn: p,
+            block: here,
+            place,
+            after,
+        };
+    }
+    let turn = p + 1;
+    let after = Block {
+        round: narrow(turn / nb),
+        written: 1,
+        claimed: 0,
+        finished: 0,
+    };
+    Room {
+        turn,
+        block: next,
+        place: 0,
+        after,
+    }
+}
+
+// Does a get at `place` of turn K move on, `written` labels standing in that turn.
+fn moves_on(ne: u16, p: u32, k: u32, place: u16, written: u16) -> bool
+    ensures { λ r. ⌜ r ≡ movesOn ne p k place written ⌝ }
+{
+    if place < written {
+        return false;
+    }
+    if !is_read(place, ne) {
+        return false;
+    }
+    k < p
+}
+
+pub fn put(h: Head, table: [Block; 64], entries: &mut [u32], a: u32) -> Went
+    requires { ⌜ Ready h table (now entries) ⌝ }
+    ensures { λ r. ⌜ given r (now (entries .exit)) ≡ gave table (h .nb) (putStep (sizeOf h) (lineOf h table (h .nb) (now (entries .entry))) a) ⌝ }
+{
+    let nb = h.nb as u32;
+    let ne = h.ne as u32;
+    let p = h.p;
+    let mut t = table;
+    let here = block_of(p, nb);
+    let next = block_after(here, nb);
+    let current = t[here];
+    let old = t[next];
+    match may_put(nb, ne, p, h.k, current, old, a) {
+        Verdict::Takes => {
+            let room = room_for(nb, ne, p, here, next, current);
+            let block = room.block;
+            let after = room.after;
+            write_label(entries, ne, block, room.place, a);
+            t[block] = after;
+            let mut head = h;
+            head.p = room.turn;
+            return Went {
+                answer: Answer::Put(a),
+                head,
+                table: t,
+            };
+        }
+        Verdict::Refuses(w) => {
+            return Went {
+                answer: Answer::Refused(w, 0),
+                head: h,
+                table: t,
+            };
+        }
+    }
+}
+
+// Puts a to b until one is refused. A line holds NB x NE labels, so there are at most that many puts and one.
+pub fn order(h: Head, table: [Block; 64], entries: &mut [u32], a: u32, b: u32) -> Went
+    requires { ⌜ Ready h table (now entries) ⌝ }
+    ensures { λ r. ⌜ given r (now (entries .exit)) ≡ gave table (h .nb) (orderStep (sizeOf h) (lineOf h table (h .nb) (now (entries .entry))) a b) ⌝ }
+{
+    if !is_order(a, b) {
+        return Went {
+            answer: Answer::Refused(Refusal::Range, 0),
+            head: h,
+            table,
+        };
+    }
+    let nb = h.nb as u32;
+    let ne = h.ne as u32;
+    let k = h.k;
+    let mut p = h.p;
+    let mut t = table;
+    let mut here = block_of(p, nb);
+    let mut label = a;
+    while label <= b {
+        let next = block_after(here, nb);
+        let current = t[here];
+        let old = t[next];
+        match may_put(nb, ne, p, k, current, old, label) {
+            Verdict::Takes => {
+                let room = room_for(nb, ne, p, here, next, current);
+                p = room.turn;
+                here = room.block;
+                let after = room.after;
+                write_label(entries, ne, here, room.place, label);
+                t[here] = after;
+                label = label + 1;
+            }
+            Verdict::Refuses(w) => {
+                let mut head = h;
+                head.p = p;
+                return Went {
+                    answer: Answer::Refused(w, label - a),
+                    head,
+                    table: t,
+                };
+            }
+        }
+    }
+    let mut head = h;
+    head.p = p;
+    Went {
+        answer: Answer::Whole(label - a),
+        head,
+        table: t,
+    }
+}
+
+// Moves from turn K to turn P at most, which by rule 1 is NB - 1 blocks.
+pub fn get(h: Head, table: [Block; 64], entries: &[u32]) -> Went
+    requires { ⌜ Ready h table (now entries) ⌝ }
+    ensures { λ r. ⌜ given r (now (entries .entry)) ≡ gave table (h .nb) (getStep (sizeOf h) (lineOf h table (h .nb) (now (entries .entry)))) ⌝ }
+{
+    let nb = h.nb as u32;
+    let ne = h.ne;
+    let p = h.p;
+    let mut k = h.k;
+    let mut place = h.reading;
+    let mut here = block_of(k, nb);
+    let mut current = table[here];
+    while moves_on(ne, p, k, place, current.written) {
+        k = k + 1;
+        here = block_after(here, nb);
+        current = table[here];
+        place = current.claimed;
+    }
+    let mut head = h;
+    head.k = k;
+    head.reading = place;
+    if current.written <= place {
+        return Went {
+            answer: Answer::Refused(Refusal::Empty, 0),
+            head,
+            table,
+        };
+    }
+    let label = read_label(entries, ne as u32, here, place as u32);
+    head.reading = place + 1;
+    Went {
+        answer: Answer::Got(label),
+        head,
+        table,
+    }
+}

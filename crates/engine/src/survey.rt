@@ -1,0 +1,73 @@
+// The survey: at which blocks an idle desk's look would be SEEN, as a mask, their number, and the lowest of them.
+use super::check::check;
+use line::Block;
+use line::Checked;
+use line::Head;
+use line::Surveyed;
+use line::Views;
+ghost use mathlib.Core.Path.{_≡_};
+ghost use Prim.Native.Nat.{_<_};
+ghost use Rattle.line.specs.Calls.{none, bit};
+ghost use Rattle.engine.specs.Promises.{Surveys};
+ghost use Rattle.engine.specs.Surveying.{maySee};
+
+// Would an idle desk's look at block i, whose record is c, be SEEN: a label waits, and the block is used and not owned.
+fn may_see(p: u32, k: u32, nb: u32, i: u32, c: Block) -> bool
+    requires { ⌜ 0 < nb ⌝ }
+    ensures { λ r. ⌜ r ≡ maySee nb p k i c ⌝ }
+{
+    if c.claimed == c.written {
+        return false;
+    }
+    if p < i {
+        return false;
+    }
+    let back = (p - i) % nb;
+    k < p - back
+}
+
+fn bit(seen: bool) -> u64
+    ensures { λ r. ⌜ r ≡ bit seen ⌝ }
+{
+    if seen { 1 } else { 0 }
+}
+
+// A refused survey.
+fn refused(answer: Surveyed) -> Views
+    ensures { λ r. ⌜ r ≡ none answer ⌝ }
+{
+    Views {
+        answer: answer,
+        mask: 0,
+        count: 0,
+        lowest: 64,
+    }
+}
+
+// The survey reads no entry, only how many were lent. Doubling from the top block down puts block i's bit at place i.
+pub fn survey(h: Head, table: [Block; 64], n: usize, m: usize) -> Views
+    ensures { λ r. ⌜ Surveys h table n m r ⌝ }
+{
+    match check(h, table, n, m) {
+        Checked::Unfit => refused(Surveyed::Unfit),
+        Checked::Broken(_, _) => refused(Surveyed::Damaged),
+        Checked::Sound => {
+            let nb = h.nb as u32;
+            let p = h.p;
+            let k = h.k;
+            let mut mask: u64 = 0;
+            let mut i = nb;
+            while 0 < i {
+                i = i - 1;
+                let at = i as usize;
+                mask = 2 * mask + bit(may_see(p, k, nb, i, table[at]));
+            }
+            Views {
+                answer: Surveyed::Survey,
+                mask: mask,
+                count: u64::count_ones(mask),
+                lowest: u64::trailing_zeros(mask),
+            }
+        }
+    }
+}
