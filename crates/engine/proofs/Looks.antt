@@ -15,7 +15,7 @@ use Rattle.book.proofs.Choice.{cases, T→true, not→false, lt→true, ge→fa
 use Rattle.book.proofs.Turns.{current-block}
 use Rattle.line.specs.declared.Block.{Block}
 use Rattle.line.specs.Line.{Line, Outcome, Spot, sizeOf, refuse, unused, recordOf, lookStep, taken, deskStep}
-use Rattle.line.specs.Calls.{isSeen}
+use Rattle.line.specs.Survey.{isSeen}
 use Rattle.engine.specs.Surveying.{maySee}
 
 abbrev waits : Block → Bool

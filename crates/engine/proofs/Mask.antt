@@ -13,7 +13,7 @@ use Rattle.book.specs.Choice.{if_then_else_}
 use Rattle.book.specs.Total.{total}
 use Rattle.line.specs.declared.Surveyed.the-variants.{Survey}
 use Rattle.line.specs.declared.Views.{Views}
-use Rattle.line.specs.Calls.{bit, maskOf, lowestFrom, views}
+use Rattle.line.specs.Survey.{bit, maskOf, lowestFrom, views}
 
 pub bit-le : (x : Bool) → bit x ≤ 1
 bit-le true = omega arith

@@ -13,7 +13,7 @@ use Rattle.line.specs.declared.Checked.the-variants.{Sound}
 use Rattle.line.specs.declared.Head.{Head}
 use Rattle.line.specs.Line.{Line, sizeOf, unused}
 use Rattle.line.specs.Check.{fit, check}
-use Rattle.line.specs.Calls.{seenFrom, views, surveys, survey}
+use Rattle.line.specs.Survey.{seenFrom, views, surveys, survey}
 use Rattle.line.proofs.Check.{Says, checked}
 use Rattle.engine.specs.Lent.{lentTable, lineOf}
 use Rattle.engine.specs.Surveying.{maySee}

@@ -11,7 +11,8 @@ use Rattle.line.specs.declared.Checked.{Checked}
 use Rattle.line.specs.declared.Views.{Views}
 use Rattle.line.specs.Line.{sizeOf}
 use Rattle.line.specs.Check.{check}
-use Rattle.line.specs.Calls.{step, orders, survey}
+use Rattle.line.specs.Calls.{step, orders}
+use Rattle.line.specs.Survey.{survey}
 use Rattle.line.specs.Agrees.{Lawful}
 use Rattle.engine.specs.declared.Went.{Went}
 use Rattle.engine.specs.Lent.{lineOf, given, gave}

@@ -7,7 +7,7 @@ use line::Surveyed;
 use line::Views;
 ghost use mathlib.Core.Path.{_≡_};
 ghost use Prim.Native.Nat.{_<_};
-ghost use Rattle.line.specs.Calls.{none, bit};
+ghost use Rattle.line.specs.Survey.{none, bit};
 ghost use Rattle.engine.specs.Promises.{Surveys};
 ghost use Rattle.engine.specs.Surveying.{maySee};
 

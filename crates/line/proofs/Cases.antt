@@ -8,7 +8,8 @@ use Rattle.book.specs.Verdicts.{admitted, lookable, startable, placeable}
 use Rattle.line.specs.Line as L
 use Rattle.line.specs.Rules.{ofBlocks, inOrder}
 use Rattle.line.specs.Check as C
-use Rattle.line.specs.Calls.{opens, step, orders, answers, after, seenFrom, maskOf, lowestFrom, views, surveys, survey}
+use Rattle.line.specs.Calls.{opens, step, orders, answers, after}
+use Rattle.line.specs.Survey.{seenFrom, maskOf, lowestFrom, views, surveys, survey}
 use Rattle.line.specs.Damaged.{SoundCases, UnfitCases, Rule1Cases, Rule2Cases, Rule3Cases, PairCases, Rule4Cases, Rule5Cases, Rule6Cases, Rule7Cases, SeveralCases}
 use Rattle.line.specs.Cases.{ListingCases, RunCases, WornCases, WayCases, StepCases, RefusedCases, OrderCases, SurveyCases, OpeningCases}
 

@@ -23,7 +23,8 @@ use Rattle.line.specs.Line.{Line, Outcome, Spot, says, refuse, nowhere, 
 use Rattle.line.specs.Line.{readAt, getStep, winnable, lookStep, claimStep, fetchStep, finishStep, taken, deskStep, does}
 use Rattle.line.specs.Rules.{Sound}
 use Rattle.line.specs.Check.{Checked, sound, unfit, broken, fit, check}
-use Rattle.line.specs.Calls.{opens, passes, step, orders, surveys, survey, views, none, surveyed, survey·unfit, survey·damaged}
+use Rattle.line.specs.Calls.{opens, passes, step, orders}
+use Rattle.line.specs.Survey.{surveys, survey, views, none, surveyed, survey·unfit, survey·damaged}
 use Rattle.line.specs.Demands.{CheckSound, Guarded, StepGuarded, OrderGuarded, SurveyGuarded, OpeningGuarded}
 use Rattle.line.proofs.Tests.{all-at}
 use Rattle.line.proofs.Check.{Fit, Says, checked, broken-unsound, check-sound}

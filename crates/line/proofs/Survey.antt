@@ -2,7 +2,7 @@
 -- its lowest is the lowest of them, or 64. First the laws of a mask of Booleans: a Boolean in front doubles the mask and puts
 -- its bit in. Then the Booleans of the survey are the looks at the blocks, and past the last block a look is refused too.
 use mathlib.Core.Path.{_≡_, refl, sym, ap, _∙_}
-use mathlib.Core.Logic.{_≢_}
+use mathlib.Core.Logic.{_≢_, _↔_}
 use mathlib.Core.Bool.{Bool, true, false, not, _&&_}
 use mathlib.Core.List.{List, [], _∷_}
 use Prim.Native.Nat.{ℕ, zero, suc, _+_, _-_, _*_, _/_, _^_, _≤_, _<_}
@@ -10,6 +10,8 @@ use native.Mathlib.Nat.{zero-add, add-zero, add-suc, suc-add, sub-zero, mul-comm
 use native.Mathlib.Omega.{arith}
 use lib.Dec.{T, eqb}
 use lib.ListN.{length, getD}
+use Rattle.words.specs.declared.Answer.{Answer}
+use Rattle.words.specs.declared.Answer.the-variants.{Put, Got, Took, Whole, Seen, Claimed, Done, Refused}
 use Rattle.words.specs.declared.Refusal.{Refusal}
 use Rattle.book.specs.Total.{total}
 use Rattle.book.specs.Sizes.{Size, fits}
@@ -19,7 +21,8 @@ use Rattle.book.proofs.Choice.{by-test, choose-true, choose-false, and-first, l
 use Rattle.line.specs.Line.{Line, Spot, Outcome, sizeOf, deskAt, lookStep, taken, deskStep, does}
 use Rattle.line.specs.Rules.{Sound}
 use Rattle.line.specs.Check.{fit}
-use Rattle.line.specs.Calls.{isSeen, seenFrom, bit, maskOf, lowestFrom, views, surveys, survey, step}
+use Rattle.line.specs.Calls.{step}
+use Rattle.line.specs.Survey.{isSeen, seenFrom, bit, maskOf, lowestFrom, views, surveys, survey}
 use Rattle.line.specs.Demands.{bitAt, ones, LeastBit, CheckSound, SurveyTells}
 use Rattle.line.proofs.Cells.{valid}
 use Rattle.line.proofs.Check.{check-sound}
@@ -182,11 +185,25 @@ module _ (l : Line) where
     unfolding does
     step-look d b x i e = step-does l x f s ∙ rw (e, i) refl
 
+-- an answer's bit is 1 exactly if it is SEEN
+bit-seen : (a : Answer) → bit (isSeen a) ≡ 1 → (place : ℕ) × (a ≡ Seen place)
+bit-seen (Put label) e = absurd (omega arith)
+bit-seen (Got label) e = absurd (omega arith)
+bit-seen (Took label) e = absurd (omega arith)
+bit-seen (Whole n) e = absurd (omega arith)
+bit-seen (Seen place) e = (place, refl)
+bit-seen (Claimed place) e = absurd (omega arith)
+bit-seen Done e = absurd (omega arith)
+bit-seen (Refused w n) e = absurd (omega arith)
+
+seen-bit : (a : Answer) → (bit (isSeen a) ≡ 1) ↔ ((place : ℕ) × (a ≡ Seen place))
+seen-bit a = (bit-seen a, λ p. ap (λ (x : Answer). bit (isSeen x)) (p .1))
+
 pub survey-tells : SurveyTells
 unfolding SurveyTells views
 survey-tells l f s = record {
-  bits = survey-bit l f s;
-  looks = λ d b x i h e. rw (step-look l f s d b x i e) (survey-bit l f s d b h);
+  bits = λ d b h. rw (survey-bit l f s d b h) (seen-bit ((deskStep (sizeOf (l .head)) l d (look b) idle) .answer));
+  looks = λ d b x i h e. rw (step-look l f s d b x i e, survey-bit l f s d b h) (seen-bit ((deskStep (sizeOf (l .head)) l d (look b) idle) .answer));
   count = rw (survey-is l f s) (mask-ones (blocks l) 64 (at-most-64 l f));
   lowest = rw (survey-is l f s) (mask-lowest (blocks l) (at-most-64 l f));
 }

@@ -1,22 +1,16 @@
--- What a caller gets: opening, a step, an order, the survey. UNFIT and DAMAGED are tested before anything else is read.
-use mathlib.Core.Bool.{Bool, true, false}
+-- What a caller gets: opening, a step, an order. UNFIT and DAMAGED are tested before anything else is read.
 use mathlib.Core.List.{List, [], _∷_}
-use Prim.Native.Nat.{ℕ, zero, suc, _+_, _*_}
+use Prim.Native.Nat.{ℕ}
 use Rattle.words.specs.declared.Answer.{Answer}
-use Rattle.words.specs.declared.Answer.the-variants.{Put, Got, Took, Whole, Seen, Claimed, Done, Refused}
 use Rattle.words.specs.declared.Refusal.the-variants.{Unfit, Damaged}
 use Rattle.book.specs.Choice.{if_then_else_}
-use Rattle.book.specs.Total.{total}
 use Rattle.book.specs.Sizes.{Size}
-use Rattle.book.specs.Steps.{Step, look, idle, decode}
+use Rattle.book.specs.Steps.{Step, decode}
 use Rattle.book.specs.Verdicts.{Verdict, takes, refuses, judge}
-use Rattle.line.specs.Line.{Line, Outcome, sizeOf, refuse, orderStep, deskStep, does, opened}
+use Rattle.line.specs.Line.{Line, Outcome, sizeOf, refuse, orderStep, does, opened}
 use Rattle.line.specs.Check.{Checked, sound, unfit, broken, fit, check}
 pub use Rattle.line.specs.declared.Opening.{Opening}
 pub use Rattle.line.specs.declared.Opening.the-variants.{Open as open·line, Unfit as open·unfit}
-pub use Rattle.line.specs.declared.Surveyed.{Surveyed}
-pub use Rattle.line.specs.declared.Surveyed.the-variants.{Survey as surveyed, Unfit as survey·unfit, Damaged as survey·damaged}
-pub use Rattle.line.specs.declared.Views.{Views}
 
 -- ---- opening
 
@@ -49,47 +43,3 @@ answers l (s ∷ ss) = (step l s) .answer ∷ answers ((step l s) .line) ss
 unfoldable pub after : Line → List Step → Line
 after l [] = l
 after l (s ∷ ss) = after ((step l s) .line) ss
-
--- ---- the survey
-
-abbrev pub isSeen : Answer → Bool
-isSeen (Put label) = false
-isSeen (Got label) = false
-isSeen (Took label) = false
-isSeen (Whole n) = false
-isSeen (Seen place) = true
-isSeen (Claimed place) = false
-isSeen Done = false
-isSeen (Refused w n) = false
-
--- for n blocks from block i on: would an idle desk's look be SEEN
-unfoldable pub seenFrom : Line → ℕ → ℕ → List Bool
-seenFrom l i zero = []
-seenFrom l i (suc n) = isSeen ((deskStep (sizeOf (l .head)) l 0 (look i) idle) .answer) ∷ seenFrom l (suc i) n
-
-abbrev pub bit : Bool → ℕ
-bit b = if b then 1 else 0
-
--- bit b of the mask is the b-th of the list
-unfoldable pub maskOf : List Bool → ℕ
-maskOf [] = 0
-maskOf (b ∷ bs) = bit b + 2 * maskOf bs
-
--- the lowest of them, the list starting at block i; 64 where there is none
-unfoldable pub lowestFrom : ℕ → List Bool → ℕ
-lowestFrom i [] = 64
-lowestFrom i (b ∷ bs) = let later = lowestFrom (suc i) bs in if b then i else later
-
-unfoldable pub views : List Bool → Views
-views bs = record { answer = surveyed; mask = maskOf bs; count = total bit bs; lowest = lowestFrom 0 bs }
-
-abbrev pub none : Surveyed → Views
-none a = record { answer = a; mask = 0; count = 0; lowest = 64 }
-
-unfoldable pub surveys : Line → Checked → Views
-surveys l sound = views (seenFrom l 0 (l .head .nb))
-surveys l unfit = none survey·unfit
-surveys l (broken place rule) = none survey·damaged
-
-unfoldable pub survey : Line → Views
-survey l = surveys l (check l)

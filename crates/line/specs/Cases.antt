@@ -11,7 +11,7 @@ use Rattle.book.specs.Sizes.{Size}
 use Rattle.book.specs.Steps.{Step, idle, looked, claimed, fetched}
 use Rattle.line.specs.Line.{Line, Outcome, says, opened}
 use Rattle.line.specs.Calls.{Opened, open·line, open·unfit, opens, step, orders, answers, after}
-use Rattle.line.specs.Calls.{Surveyed, surveyed, survey·unfit, survey·damaged, Views, survey}
+use Rattle.line.specs.Survey.{Surveyed, surveyed, survey·unfit, survey·damaged, Views, survey}
 use Rattle.line.specs.Samples.{size, spot, fresh, started, middle, read, won, ends, stolen, five, lengths, short}
 use Rattle.line.specs.Samples.{withP, withK, withReading, withDesk, withStage, withRound, withWritten, withClaimed, withFinished, withEntry}
 

@@ -5,7 +5,7 @@ use mathlib.Core.Logic.{_≢_, _↔_}
 use mathlib.Core.List.{List, _∷_, _++_, map}
 use Prim.Native.Nat.{ℕ, zero, suc, _+_, _-_, _/_, _%_, _^_, _≤_, _<_}
 use lib.Dec.{T}
-use Rattle.words.specs.declared.Answer.the-variants.{Whole, Refused}
+use Rattle.words.specs.declared.Answer.the-variants.{Whole, Seen, Refused}
 use Rattle.words.specs.declared.Refusal.{Refusal}
 use Rattle.words.specs.declared.Refusal.the-variants.{Unfit, Damaged, Lost, Range, Empty}
 use Rattle.book.specs.Sizes.{Size, fits, isOrder}
@@ -16,7 +16,8 @@ use Rattle.book.specs.Counts.{placed, got, taken, won, lost, unfetched, waiting
 use Rattle.line.specs.Line.{Line, Outcome, sizeOf, deskAt, getAt, withDesk, withHead, recordOf, deskStep, mayPut, opened}
 use Rattle.line.specs.Rules.{Sound, Asked, numberOf, inOrder, Obeys}
 use Rattle.line.specs.Check.{sound, unfit, broken, fit, check}
-use Rattle.line.specs.Calls.{open·line, open·unfit, opens, step, orders, answers, after, isSeen, bit, survey, surveyed, survey·unfit, survey·damaged, none}
+use Rattle.line.specs.Calls.{open·line, open·unfit, opens, step, orders, answers, after}
+use Rattle.line.specs.Survey.{survey, surveyed, survey·unfit, survey·damaged, none}
 use Rattle.line.specs.Refusals.{When, afterPuts, Places}
 use Rattle.line.specs.Agrees.{Lawful, Agrees}
 
@@ -172,11 +173,14 @@ pub record LeastBit (mask b : ℕ) : Type 0 where
   pub set : b ≢ 64 → bitAt mask b ≡ 1
   pub none : b ≡ 64 → mask ≡ 0
 
+abbrev Sees : Outcome → Type 0
+Sees o = (place : ℕ) × (o .answer ≡ Seen place)
+
 pub record Surveys (l : Line) : Type 0 where
-  -- bit b says that an idle desk's look at block b would be SEEN
-  pub bits : (d b : ℕ) → d < l .head .t → bitAt ((survey l) .mask) b ≡ bit (isSeen ((deskStep (sizeOf (l .head)) l d (look b) idle) .answer))
-  -- and so is, where a desk is idle
-  pub looks : (d b : ℕ) (s : Step) → deskAt (l .head) d ≡ idle → d < l .head .t → decode s ≡ desk d (look b) → bitAt ((survey l) .mask) b ≡ bit (isSeen ((step l s) .answer))
+  -- bit b is set exactly if an idle desk's look at block b would be SEEN
+  pub bits : (d b : ℕ) → d < l .head .t → (bitAt ((survey l) .mask) b ≡ 1) ↔ Sees (deskStep (sizeOf (l .head)) l d (look b) idle)
+  -- and so if the look of a desk that is idle is
+  pub looks : (d b : ℕ) (s : Step) → deskAt (l .head) d ≡ idle → d < l .head .t → decode s ≡ desk d (look b) → (bitAt ((survey l) .mask) b ≡ 1) ↔ Sees (step l s)
   pub count : (survey l) .count ≡ ones 64 ((survey l) .mask)
   pub lowest : LeastBit ((survey l) .mask) ((survey l) .lowest)
 

@@ -2,6 +2,7 @@ pub mod Line
 pub mod Rules
 pub mod Check
 pub mod Calls
+pub mod Survey
 pub mod Refusals
 pub mod Agrees
 pub mod Demands

@@ -114,11 +114,7 @@ module _ (z : Size) where
 
   -- label a goes to place q of turn t, whose record is then c
   abbrev pub labelled : Line → ℕ → ℕ → Block → ℕ → Line
-  labelled l t q c a = record {
-    head = putAt (l .head) t;
-    table = set (l .table) (blockOf z t) c;
-    entries = set (l .entries) (entryOf t q) a;
-  }
+  labelled l t q c a = record { head = putAt (l .head) t; table = set (l .table) (blockOf z t) c; entries = set (l .entries) (entryOf t q) a }
 
   unfoldable pub stored : Line → ℕ → Line
   stored l a =

@@ -3,7 +3,7 @@ use Prim.Native.Nat.{_^_, _≤_, _<_}
 use native.Mathlib.Omega.{arith}
 use borrow.Author.Needs.{needs}
 use lib.ListN.{length}
-use Rattle.line.specs.Calls.{surveys}
+use Rattle.line.specs.Survey.{surveys}
 use Rattle.engine.proofs.Mask.{bit-le, maskDown, mask-none, mask-more, mask-room, told}
 use Rattle.engine.proofs.Surveying.{bitAt, survey-by, sound-sized, survey-sound}
 use Rattle.engine.proofs.survey.survey.Statement.{statement}
