@@ -2,7 +2,8 @@
 use mathlib.Core.Path.{_≡_, refl, sym, ap, subst, subst⁻¹, _∙_}
 use mathlib.Core.List.{List}
 use Prim.Native.Nat.{ℕ}
-use lib.ListN.{length, replicate, length-replicate}
+use lib.ListN.{length}
+use Rattle.words.specs.declared.Answer.{Answer}
 use Rattle.words.specs.declared.Answer.the-variants.{Refused}
 use Rattle.words.specs.declared.Refusal.{Refusal}
 use Rattle.words.specs.declared.Refusal.the-variants.{Unfit, Damaged}
@@ -23,8 +24,8 @@ use Rattle.line.proofs.Guards.{step-does, orders-does}
 use Rattle.line.specs.Rules.{Sound}
 use Rattle.engine.specs.Lent.{lineOf, Given, gave}
 use Rattle.engine.specs.Promises.{Checks, Ready}
-use Rattle.engine.proofs.Entries.{check-entries}
-use Rattle.engine.proofs.LentMore.{lent-length, refused}
+use Rattle.engine.proofs.Entries.{lent-checked}
+use Rattle.engine.proofs.Lent.{lent-length, refused}
 use Rattle.engine.proofs.Takes.{taken-refused}
 
 module _ (h : Head) (t : List Block) (n : ℕ) (es : List ℕ) where
@@ -41,8 +42,8 @@ module _ (h : Head) (t : List Block) (n : ℕ) (es : List ℕ) where
 
   pub record Goes : Type 0 where
     pub ready : Ready h t es
-    pub step-is : (s : Step) (d : Deed) (o : Given) → d ≡ decode s → o ≡ gave t (h .nb) (does z (lineOf h t (h .nb) es) d) → o ≡ gave t n (step l s)
-    pub order-is : (a b : ℕ) (o : Given) → o ≡ gave t (h .nb) (orderStep z (lineOf h t (h .nb) es) a b) → o ≡ gave t n (orders l a b)
+    pub step-is : (s : Step) (d : Deed) (o : Given Answer) → d ≡ decode s → o ≡ gave t (h .nb) (does z (lineOf h t (h .nb) es) d) → o ≡ gave t n (step l s)
+    pub order-is : (a b : ℕ) (o : Given Answer) → o ≡ gave t (h .nb) (orderStep z (lineOf h t (h .nb) es) a b) → o ≡ gave t n (orders l a b)
 
   says-sound : (c : Checked) → Says l c → takes ≡ passes c → Fit l × Sound l
   says-sound sound f e = f
@@ -69,7 +70,7 @@ module _ (h : Head) (t : List Block) (n : ℕ) (es : List ℕ) where
   -- c is what the check said, of as many entries as there are, and v what that lets pass
   module _ (c : Checked) (q : Checks h t n (length es) c) (v : Verdict) (p : v ≡ passes c) where
     verdict : v ≡ passes (check l)
-    verdict = p ∙ ap passes (q ∙ check-entries h t n (replicate (length es) 0) es (length-replicate (length es) 0))
+    verdict = p ∙ ap passes (lent-checked h t n es c q)
 
     pub stops : (w : Refusal) → v ≡ refuses w → Stops w
     unfolding step orders

@@ -34,11 +34,11 @@ module _ (h : Head) (t : List Block) (n : ℕ) (es es′ : List ℕ) where
   first-entries (a ∷ rest) =
       ap₂ (λ (b : Bool) (c : Checked). if b then c else Broken (a .place) (numberOf (a .rule))) (holds-entries (a .place) (a .rule)) (first-entries rest)
 
-  pub check-entries : length es ≡ length es′ → check (lineOf h t n es) ≡ check (lineOf h t n es′)
+  check-entries : length es ≡ length es′ → check (lineOf h t n es) ≡ check (lineOf h t n es′)
   unfolding check fit
   check-entries e =
       ap₂ (λ (k : ℕ) (c : Checked). if fits (sizeOf h) && eqb (length (lentTable t n)) (h .nb) && eqb k (h .nb * h .ne) then c else Unfit) e (first-entries (inOrder (h .nb)))
 
 -- what the check promises of any m entries holds of the m that were lent
-pub checked : (h : Head) (t : List Block) (n : ℕ) (es : List ℕ) (r : Checked) → Checks h t n (length es) r → r ≡ check (lineOf h t n es)
-checked h t n es r p = p ∙ check-entries h t n (replicate (length es) 0) es (length-replicate (length es) 0)
+pub lent-checked : (h : Head) (t : List Block) (n : ℕ) (es : List ℕ) (r : Checked) → Checks h t n (length es) r → r ≡ check (lineOf h t n es)
+lent-checked h t n es r p = p ∙ check-entries h t n (replicate (length es) 0) es (length-replicate (length es) 0)

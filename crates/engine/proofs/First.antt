@@ -1,35 +1,25 @@
 -- The first rule broken, asked one by one.
 use mathlib.Core.Path.{_≡_, refl, sym, ap, _∙_}
-use mathlib.Core.Bool.{Bool, true, false, _&&_}
+use mathlib.Core.Bool.{Bool, true, false}
 use mathlib.Core.List.{List, [], _∷_}
-use Prim.Native.Nat.{ℕ, suc, _+_, _-_, _*_, _%_, _≤_, _<_}
+use Prim.Native.Nat.{ℕ, suc, _+_, _-_, _%_, _≤_, _<_}
 use native.Mathlib.Numerals.{add-one}
 use native.Mathlib.Omega.{arith}
-use lib.Dec.{T, leb, eqb, leb→le, eqb→eq}
 use lib.ListN.{length, replicate, length-replicate}
-use lib.Seq.{length-take-le}
-use Rattle.book.specs.Sizes.{fits}
-use Rattle.book.proofs.Choice.{by-test, and-first, and-second}
 use Rattle.line.specs.declared.Block.{Block}
 use Rattle.line.specs.declared.Checked.{Checked}
 use Rattle.line.specs.declared.Checked.the-variants.{Sound, Unfit, Broken}
 use Rattle.line.specs.declared.Head.{Head}
-use Rattle.line.specs.Line.{Line, unused, sizeOf}
+use Rattle.line.specs.Line.{Line, sizeOf}
 use Rattle.line.specs.Rules.{Rule, rule1, rule2, rule3, rule4, rule5, rule6, rule7, numberOf, Asked, ask, ofBlocks, inOrder}
 use Rattle.line.specs.Check.{fit, holds1, holds2, holds3, holds4, holds5, holds6, holds7, holds, firstBroken, check}
-use Rattle.line.proofs.Cells.{valid}
 use Rattle.engine.specs.Lent.{lentTable, lineOf}
 use Rattle.engine.specs.Checking.{Ring, fitting}
+use Rattle.engine.proofs.Fits.{fit-by, sized}
 use Rattle.engine.proofs.Entries.{first-entries}
 use Rattle.engine.proofs.Plain.{bare}
 
 -- ---- UNFIT, or the rules in order
-
-pub lent-length : (tb : List Block) (n : ℕ) → length tb ≡ 64 → length (lentTable tb n) ≡ n
-unfolding lentTable
-lent-length tb n h =
-    by-test (λ (l : List Block). length l ≡ n) (leb n 64)
-    (λ s. let k = leb→le n 64 s in length-take-le n tb (omega arith)) (λ s. length-replicate n unused)
 
 module _ (h : Head) (tb : List Block) (n m : ℕ) where
   abbrev answer : Checked
@@ -42,26 +32,22 @@ module _ (h : Head) (tb : List Block) (n m : ℕ) where
     pub order : answer ≡ firstBroken (bare h tb) (inOrder (h .nb))
 
   module _ (full : length tb ≡ 64) (r : Bool) (said : r ≡ fitting (sizeOf h) n m) where
-    fit-by : fit (sizeOf h) (lentTable tb n) (replicate m 0) ≡ r
-    unfolding fit
-    fit-by = rw (lent-length tb n full, length-replicate {A = ℕ} m 0) (sym said)
+    fits-by : fit (sizeOf h) (lentTable tb n) (replicate m 0) ≡ r
+    fits-by = rw (fit-by (sizeOf h) tb n (replicate m 0) full, length-replicate {A = ℕ} m 0) (sym said)
 
     pub is-unfit : r ≡ false → Unfit ≡ answer
     unfolding check
-    is-unfit e = rw (fit-by, e)
+    is-unfit e = rw (fits-by, e)
 
     pub is-fit : r ≡ true → Fitted
     unfolding check
     is-fit e =
-        let a = fits (sizeOf h) in let b = eqb n (h .nb) in let c = eqb m (h .nb * h .ne) in
-        let ab : T (a && b) = and-first (a && b) c (rw (sym said ∙ e) tt) in
-        let v = valid (sizeOf h) (and-first a b ab) in
-        let s : n ≡ h .nb = eqb→eq n (h .nb) (and-second a b ab) in
+        let s = sized (sizeOf h) n m r said e in let v = s .limits in
         record {
           ring = record { some = omega (arith, v .nb); few = v .nb-most; stands = refl };
-          same = s;
-          order = rw (fit-by, e)
-              (first-entries h tb n (replicate m 0) [] (inOrder (h .nb)) ∙ ap (λ (k : ℕ). firstBroken (lineOf h tb k []) (inOrder (h .nb))) s);
+          same = s .blocks;
+          order = rw (fits-by, e)
+              (first-entries h tb n (replicate m 0) [] (inOrder (h .nb)) ∙ ap (λ (k : ℕ). firstBroken (lineOf h tb k []) (inOrder (h .nb))) (s .blocks));
         }
 
 -- ---- the rules of the head, then those of a block

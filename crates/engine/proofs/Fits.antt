@@ -4,21 +4,16 @@ use mathlib.Core.Bool.{Bool, true, _&&_}
 use mathlib.Core.List.{List}
 use Prim.Native.Nat.{ℕ, _*_, _≤_}
 use native.Mathlib.Omega.{arith}
-use lib.Dec.{T, leb, eqb, leb→le, eqb→eq}
-use lib.ListN.{length, length-replicate}
-use lib.Seq.{length-take-le}
+use lib.Dec.{T, eqb, eqb→eq}
+use lib.ListN.{length}
 use Rattle.book.specs.Sizes.{Size, fits}
-use Rattle.book.proofs.Choice.{by-test, and-first, and-second}
+use Rattle.book.proofs.Choice.{and-first, and-second}
 use Rattle.line.specs.declared.Block.{Block}
-use Rattle.line.specs.Line.{unused}
 use Rattle.line.specs.Check.{fit}
 use Rattle.line.proofs.Cells.{Valid, valid}
 use Rattle.engine.specs.Lent.{lentTable}
 use Rattle.engine.specs.Checking.{fitting}
-
-pub lent-length : (t : List Block) (n : ℕ) → length t ≡ 64 → length (lentTable t n) ≡ n
-unfolding lentTable
-lent-length t n h = by-test (λ (l : List Block). length l ≡ n) (leb n 64) (λ s. let k = leb→le n 64 s in length-take-le n t (omega arith)) (λ s. length-replicate n unused)
+use Rattle.engine.proofs.Lent.{lent-length}
 
 pub fit-by : (z : Size) (t : List Block) (n : ℕ) (es : List ℕ) → length t ≡ 64 → fit z (lentTable t n) es ≡ fitting z n (length es)
 unfolding fit

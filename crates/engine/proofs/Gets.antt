@@ -19,7 +19,7 @@ use Rattle.line.proofs.Cells.{cell}
 use Rattle.engine.specs.Lent.{lineOf, gave}
 use Rattle.engine.specs.Promises.{Ready}
 use Rattle.engine.specs.Owning.{movesOn}
-use Rattle.engine.proofs.Lent.{gave-lent}
+use Rattle.engine.proofs.Lent.{gave-lent, refused}
 use Rattle.engine.proofs.Ready.{next-block, blocks, record-at}
 
 abbrev at : ℕ → ℕ → Spot
@@ -120,7 +120,7 @@ module _ (h : Head) (t : List Block) (es : List ℕ) where
 
       pub empty : b .written ≤ place → record { answer = Refused Empty 0; head = getAt h (at k place); table = t; entries = es } ≡ gave t (h .nb) (getStep z l)
       unfolding readAt
-      empty w = rw (stopped, ← s .here, ge→false place (b .written) w) (gave-lent (h .nb) few t t (getAt h (at k place)) es (Refused Empty 0) refl)
+      empty w = rw (stopped, ← s .here, ge→false place (b .written) w) (refused (getAt h (at k place)) t (h .nb) es Empty)
 
       pub got : (label : ℕ) → place < b .written → label ≡ getD es (i * h .ne + place) 0
           → record { answer = Got label; head = getAt h (at k (place + 1)); table = t; entries = es } ≡ gave t (h .nb) (getStep z l)

@@ -1,5 +1,4 @@
 pub mod Lent
-pub mod LentMore
 pub mod Fits
 pub mod Entries
 pub mod First
@@ -22,4 +21,3 @@ pub mod Mask
 pub mod Opens
 pub mod Surveying
 pub mod Unique
-pub mod UniqueViews

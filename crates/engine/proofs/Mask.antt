@@ -84,11 +84,11 @@ module _ (f : ℕ → Bool) (nb : ℕ) where
   mask-step n i = omega arith
 
   -- one block more below: the mask is doubled and the block's bit put in
-  pub mask-more : (i m b : ℕ) (x : Bool) → 0 < i → i ≤ nb → m ≡ maskDown i → b ≡ bit x → x ≡ f (i - 1) → 2 * m + b ≡ maskDown (i - 1)
-  mask-more i m b x h k e g o =
+  pub mask-more : (i m b : ℕ) → 0 < i → i ≤ nb → m ≡ maskDown i → b ≡ bit (f (i - 1)) → 2 * m + b ≡ maskDown (i - 1)
+  mask-more i m b h k e g =
       let up : suc (i - 1) ≡ i = omega arith in
       let more : nb - (i - 1) ≡ suc (nb - i) = omega arith in
-      rw (e, g, o, more) (rw up at (mask-step (nb - i) (i - 1)))
+      rw (e, g, more) (rw up at (mask-step (nb - i) (i - 1)))
 
   -- and there is room for it
   pub mask-room : (i m : ℕ) → 0 < i → nb ≤ 64 → m ≡ maskDown i → m < 2 ^ 63

@@ -9,6 +9,7 @@ use lib.Dec.{leb, leb→le, nleb→lt}
 use lib.ListN.{getD, set}
 use lib.Seq.{set-getD}
 use borrow.Author.Tests.{le-leb, lt-leb}
+use Rattle.words.specs.declared.Answer.{Answer}
 use Rattle.words.specs.declared.Answer.the-variants.{Seen, Refused}
 use Rattle.words.specs.declared.Refusal.{Refusal}
 use Rattle.words.specs.declared.Refusal.the-variants.{Nodesk, Noblock, Nothing}
@@ -30,8 +31,7 @@ use Rattle.engine.specs.Promises.{Ready}
 use Rattle.engine.specs.Owning.{sized, Stands}
 use Rattle.engine.specs.declared.desks.Moved.{Moved}
 use Rattle.engine.specs.Stepping.{mayStep, blockRead, waits, mayLook, wins, leaves, spotOf, lookOf, claimOf, fetchOf, finishOf, movedBy}
-use Rattle.engine.proofs.Lent.{lent-at, put-same, put-set}
-use Rattle.engine.proofs.LentMore.{refused}
+use Rattle.engine.proofs.Lent.{lent-at, put-set, put-lent, refused}
 use Rattle.engine.proofs.Ready.{sizes, blocks, record-at, stands}
 use Rattle.engine.proofs.Takes.{taken-refused, stage-of, carries, fetch-claimed}
 
@@ -90,7 +90,7 @@ module _ (h : Head) (t : List Block) (es : List ℕ) (r : Ready h t es) where
 
   -- put in as it was, and changed
   kept-record : (i : ℕ) → set t i (getD t i unused) ≡ back (lentTable t (h .nb))
-  kept-record i = set-getD t i unused ∙ sym (put-same (h .nb) (sizes h t es r .nb-most) t)
+  kept-record i = set-getD t i unused ∙ sym (put-lent t (h .nb))
 
   new-record : (turn : ℕ) (c : Block) → set t (turn % h .nb) c ≡ back (set (lentTable t (h .nb)) (turn % h .nb) c)
   new-record turn c = sym (put-set (h .nb) (sizes h t es r .nb-most) t (turn % h .nb) c (mod-lt turn (blocks h t es r .0)))
@@ -115,7 +115,7 @@ module _ (h : Head) (t : List Block) (es : List ℕ) (r : Ready h t es) where
         stands h t es r (x .turn) (x .turn % h .nb) refl (x .place) (omega (arith, q .1, k .claims, k .fits))
 
     -- what a step gives that leaves this desk and this record of block i
-    abbrev kept : ℕ → Moved → Given
+    abbrev kept : ℕ → Moved → Given Answer
     kept i m = record {
       answer = m .answer;
       head = record { nb = h .nb; ne = h .ne; t = h .t; reading = h .reading; p = h .p; k = h .k; desks = set (h .desks) d (m .desk) };
@@ -186,7 +186,7 @@ module _ (h : Head) (t : List Block) (es : List ℕ) (r : Ready h t es) where
     taken-kept finish e = rw (carries x stage-in 2 e) finish-kept
 
     module _ (s : DeskStep) where
-      abbrev after : Given
+      abbrev after : Given Answer
       after = gave t (h .nb) (deskStep z l d s (deskAt h d))
 
       refused-by : (w : Refusal) → admitted z d s (deskOf x) ≡ refuses w → record { answer = Refused w 0; head = h; table = t; entries = es } ≡ after

@@ -6,20 +6,19 @@ use Prim.Native.Nat.{ℕ, zero, suc, _+_, _<_}
 use native.Mathlib.Nat.{le-of-suc-le-suc}
 use native.Mathlib.Numerals.{add-one}
 use native.Mathlib.Omega.{arith}
-use lib.Dec.{leb, leb→le}
 use lib.ListN.{length, set, drop, replicate}
 use lib.Seq.{drop-length}
 use Rattle.book.specs.Sizes.{Size}
-use Rattle.book.proofs.Choice.{cases, choose-false, le→true}
+use Rattle.book.proofs.Choice.{le→true}
 use Rattle.line.specs.declared.Block.{Block}
 use Rattle.line.specs.declared.Head.{Head}
 use Rattle.line.specs.declared.Opening.the-variants.{Open, Unfit}
 use Rattle.line.specs.Line.{unused, opened}
 use Rattle.line.specs.Calls.{opens}
-use Rattle.engine.specs.Lent.{lentTable, lineOf, putBack}
+use Rattle.engine.specs.Lent.{lineOf, putBack}
 use Rattle.engine.specs.Checking.{fitting}
 use Rattle.engine.specs.Opens.{began}
-use Rattle.engine.proofs.Lent.{put-same}
+use Rattle.engine.proofs.Lent.{put-lent}
 use Rattle.engine.proofs.Fits.{fit-by, sized, sized-few}
 
 -- ---- a list whose first n are v, and the others as they were
@@ -40,11 +39,6 @@ module _ {A : Type 0} (v : A) where
   fill-all d = rw (drop-length d) (append-nil (replicate (length d) v))
 
 -- ---- what opening gives
-
--- what was lent and is not changed, also where it fits no line
-pub put-lent : (t : List Block) (n : ℕ) → putBack t n (lentTable t n) ≡ t
-unfolding putBack
-put-lent t n = cases (leb n 64) (λ s. put-same n (leb→le n 64 s) t) (λ s. choose-false (leb n 64) (lentTable t n ++ drop n t) t s)
 
 module _ (h : Head) (t : List Block) (n : ℕ) (es : List ℕ) (z : Size) (long : length t ≡ 64) (b : Bool) (test : b ≡ fitting z n (length es)) where
   pub open-unfit : b ≡ false → record { answer = Unfit; head = h; table = t; entries = es } ≡ began t n (opens (lineOf h t n es) z)

@@ -20,7 +20,7 @@ use Rattle.line.proofs.Cells.{entries-of}
 use Rattle.engine.specs.declared.owner.Room.{Room}
 use Rattle.engine.specs.Lent.{lineOf, gave}
 use Rattle.engine.specs.Promises.{Ready}
-use Rattle.engine.proofs.Lent.{gave-lent}
+use Rattle.engine.proofs.Lent.{gave-lent, refused}
 use Rattle.engine.proofs.Ready.{blocks}
 use Rattle.engine.proofs.Puts.{Reads, Writes, verdict, room-block, kept, ready-after, many-taken, many-refused}
 
@@ -38,9 +38,9 @@ module _ (h : Head) (t₀ : List Block) (es₀ : List ℕ) (a b : ℕ) where
   abbrev out : Outcome
   out = orderStep z (lineOf h t₀ (h .nb) es₀) a b
 
-  pub order-range : h .nb ≤ 64 → isOrder a b ≡ false → record { answer = Refused Range 0; head = h; table = t₀; entries = es₀ } ≡ gave t₀ (h .nb) out
+  pub order-range : isOrder a b ≡ false → record { answer = Refused Range 0; head = h; table = t₀; entries = es₀ } ≡ gave t₀ (h .nb) out
   unfolding orderStep
-  order-range few e = rw e (gave-lent (h .nb) few t₀ t₀ h es₀ (Refused Range 0) refl)
+  order-range e = rw e (refused h t₀ (h .nb) es₀ Range)
 
   -- the labels below `label` are placed; the line is then that of P, t and es, and turn P stands in block i
   pub record Placed (p : ℕ) (t : List Block) (es : List ℕ) (i label : ℕ) : Type 0 where

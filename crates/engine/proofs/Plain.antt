@@ -2,16 +2,14 @@
 use mathlib.Core.Path.{_≡_, refl, sym, ap, ap₂, _∙_}
 use mathlib.Core.Bool.{Bool, true, false, not, _&&_}
 use mathlib.Core.List.{List, []}
-use Prim.Native.Nat.{ℕ, suc, _+_, _-_, _*_, _%_, _<_}
+use Prim.Native.Nat.{ℕ, suc, _-_, _*_, _%_, _<_}
 use native.Mathlib.Nat.{mod-lt}
 use native.Mathlib.Omega.{arith}
-use lib.Dec.{T, leb, ltb, leb→le, nleb→lt, ltb→lt, lt→ltb, leb·suc-suc}
+use lib.Dec.{T, leb, ltb, leb·suc-suc}
 use lib.ListN.{getD, drop}
-use lib.Seq.{getD-take}
 use Rattle.book.specs.Total.{total, all}
 use Rattle.book.specs.Sizes.{currentTurn}
-use Rattle.book.proofs.Choice.{cases, same-test, and-in, and-first, and-second, T→true, not→false, le→true, neq→eqb}
-use Rattle.book.proofs.Turns.{current-low, current-self}
+use Rattle.book.proofs.Choice.{cases, and-first, T→true, not→false}
 use Rattle.line.specs.declared.Block.{Block}
 use Rattle.line.specs.declared.Desk.{Desk as LentDesk}
 use Rattle.line.specs.declared.Head.{Head}
@@ -19,6 +17,8 @@ use Rattle.line.specs.Line.{Line, deskOf, unused, sizeOf, recordOf}
 use Rattle.line.specs.Rules.{heldIn}
 use Rattle.line.specs.Check.{isIdle, noClash, isCurrent, deskHolds, holds1, holds2, holds3, holds4, holds5, holds6, holds7, isZeros}
 use Rattle.engine.specs.Lent.{lentTable, lineOf}
+use Rattle.engine.proofs.Lent.{lent-at}
+use Rattle.engine.proofs.Ring.{current-recent}
 use Rattle.engine.proofs.Stages.{of-desk, idle-of}
 use Rattle.engine.proofs.Walks.{rest, all-cong}
 use Rattle.engine.specs.Checking.{Ring, isRecent, obeys2, obeys3, obeys4, obeys5, obeys6, obeys7}
@@ -55,29 +55,17 @@ bare h tb = lineOf h tb (h .nb) []
 
 -- what the code said is what the rule says
 module _ (h : Head) (tb : List Block) {last : ℕ} (g : Ring (h .nb) (h .p) last) where
-  pub record-at : (i : ℕ) → i < h .nb → getD (lentTable tb (h .nb)) i unused ≡ getD tb i unused
-  unfolding lentTable
-  record-at i b = rw (le→true (h .nb) 64 (g .few)) (getD-take (h .nb) tb i unused b)
+  record-at : (i : ℕ) → i < h .nb → getD (lentTable tb (h .nb)) i unused ≡ getD tb i unused
+  record-at i b = lent-at (h .nb) (g .few) tb i unused b
 
-  pub record-of : (u : ℕ) → recordOf (sizeOf h) (lentTable tb (h .nb)) u ≡ getD tb (u % h .nb) unused
+  record-of : (u : ℕ) → recordOf (sizeOf h) (lentTable tb (h .nb)) u ≡ getD tb (u % h .nb) unused
   unfolding recordOf
   record-of u = record-at (u % h .nb) (mod-lt u (g .some))
 
   -- a turn is current exactly if it is recent
-  pub current : (u : ℕ) → isCurrent (bare h tb) u ≡ isRecent (h .nb) (h .p) u
+  current : (u : ℕ) → isCurrent (bare h tb) u ≡ isRecent (h .nb) (h .p) u
   unfolding isCurrent
-  current u =
-      cases (leb u (h .p))
-      (λ s.
-      let k = leb→le u (h .p) s in
-      current-self (sizeOf h) (h .p) u (g .some) k
-      ∙ same-test (ltb (h .p) (u + h .nb)) (isRecent (h .nb) (h .p) u)
-      (λ e. let q = ltb→lt (h .p) (u + h .nb) e in and-in (leb u (h .p)) (ltb (h .p - u) (h .nb)) s (lt→ltb (h .p - u) (h .nb) (omega arith)))
-      (λ e. let q = ltb→lt (h .p - u) (h .nb) (and-second (leb u (h .p)) (ltb (h .p - u) (h .nb)) e) in lt→ltb (h .p) (u + h .nb) (omega arith)))
-      (λ s.
-      let k = nleb→lt u (h .p) s in
-      neq→eqb (currentTurn (sizeOf h) (h .p) (u % h .nb)) u (λ e. omega (arith, current-low (sizeOf h) (h .p) (u % h .nb)))
-      ∙ sym (ap (λ (b : Bool). b && ltb (h .p - u) (h .nb)) (not→false (leb u (h .p)) s)))
+  current u = current-recent (sizeOf h) (h .p) u (g .some)
 
   -- ---- rules 1 and 2
 

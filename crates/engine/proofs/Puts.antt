@@ -9,6 +9,7 @@ use lib.Dec.{ltb, leb, ltb→lt, nltb→le, nleb→lt}
 use lib.ListN.{getD, set, drop}
 use lib.Seq.{drop-set-lt}
 use Rattle.words.specs.declared.Refusal.{Refusal}
+use Rattle.words.specs.declared.Refusal.the-variants.{Notlabel, Worn}
 use Rattle.words.specs.declared.Answer.the-variants.{Put, Refused}
 use Rattle.book.specs.Choice.{if_then_else_, _<ᵇ_}
 use Rattle.book.specs.Sizes.{Size, isLabel}
@@ -23,8 +24,9 @@ use Rattle.engine.specs.declared.owner.Room.{Room}
 use Rattle.engine.specs.Lent.{lineOf, gave}
 use Rattle.engine.specs.Promises.{Ready}
 use Rattle.engine.specs.Owning.{sized, mayPlace, roomOf, Stands}
-use Rattle.engine.proofs.Lent.{lent-set, gave-lent}
+use Rattle.engine.proofs.Lent.{lent-set, gave-lent, refused}
 use Rattle.engine.proofs.Ready.{next-block, sizes, blocks, turns, block-below, record-at, stands}
+use Rattle.engine.proofs.Takes.{taken-refused}
 
 -- ---- a start
 
@@ -36,15 +38,12 @@ same-start z k next f g e =
     (λ s. rw (T→true (ltb next (z .nb)) s))
     (λ s. rw (e (nltb→le next (z .nb) s)))
 
-never : {w : Refusal} → refuses w ≡ takes → ⊥
-never e = let z : _≡_ {A = ℕ} 0 1 = cc in omega arith
-
 -- the round of a turn that may be started fits
 start-round : (z : Size) (k next : ℕ) (f : ℕ → Bool) → startable z k f next ≡ takes → next / z .nb < 65536
 unfolding startable
 start-round z k next f e =
     cases (leb 65536 (next / z .nb))
-    (λ s. absurd (never (rw (T→true (leb 65536 (next / z .nb)) s) at e)))
+    (λ s. absurd (taken-refused Worn (sym (rw (T→true (leb 65536 (next / z .nb)) s) at e))))
     (λ s. nleb→lt 65536 (next / z .nb) s)
 
 of-choice : {A B : Type 0} (f : A → B) (b : Bool) (x y : A) → (if b then f x else f y) ≡ f (if b then x else y)
@@ -121,7 +120,7 @@ module _ {h : Head} {t : List Block} {es : List ℕ} {i j : ℕ} (x : Reads h t 
     module _ (w : Refusal) (e : verdict ≡ refuses w) where
       pub put-refused : record { answer = Refused w 0; head = h; table = t; entries = es } ≡ gave t (h .nb) (putStep z l a)
       unfolding putStep
-      put-refused = rw (← may-put, e) (gave-lent (h .nb) few t t h es (Refused w 0) refl)
+      put-refused = rw (← may-put, e) (refused h t (h .nb) es w)
 
       pub many-refused : (n count : ℕ) → putMany z (suc n) l a count ≡ says l (Refused w count)
       unfolding putMany
@@ -134,7 +133,7 @@ module _ {h : Head} {t : List Block} {es : List ℕ} {i j : ℕ} (x : Reads h t 
       round-fits k =
           cases (isLabel a)
           (λ s. start-round (sized (h .nb) (h .ne)) (h .k) (h .p + 1) (λ q. old .finished <ᵇ old .claimed) (rw (T→true (isLabel a) s, ge→false (current .written) (h .ne) k) at e))
-          (λ s. absurd (never (rw (not→false (isLabel a) s) at e)))
+          (λ s. absurd (taken-refused Notlabel (sym (rw (not→false (isLabel a) s) at e))))
 
       pub room-asks : ((1 ≤ h .nb) × (h .ne ≤ 64) × (h .p < 65536 * 64)) × (((i < 64) × (j < 64)) × (h .ne ≤ current .written → (h .p + 1) / h .nb < 65536))
       room-asks =

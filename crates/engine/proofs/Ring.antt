@@ -1,15 +1,16 @@
 -- Round the NB blocks, counted back from the block of turn P: the block of a current turn, and the current turn of a block.
 use mathlib.Core.Path.{_≡_, sym, ap, subst, _∙_}
-use mathlib.Core.Bool.{Bool, true, false}
+use mathlib.Core.Bool.{Bool, true, false, _&&_}
 use Prim.Native.Nat.{ℕ, _+_, _-_, _*_, _/_, _%_, _≤_, _<_}
 use native.Mathlib.Nat.{mod-lt, mod-le, mod-eq-of-lt, add-mul-mod-self-right, div-add-mod'}
 use native.Mathlib.Omega.{arith}
 use lib.Arith.{sub-sub-self}
-use lib.Dec.{T, leb, ltb, leb→le, ltb→lt}
-use Rattle.book.specs.Sizes.{currentTurn}
-use Rattle.book.proofs.Choice.{and-first, and-second}
-use Rattle.book.proofs.Turns.{current-block}
+use lib.Dec.{T, leb, ltb, eqb, leb→le, nleb→lt, ltb→lt, lt→ltb}
+use Rattle.book.specs.Sizes.{Size, blockOf, currentTurn}
+use Rattle.book.proofs.Choice.{cases, same-test, and-first, and-second, and-in, not→false, neq→eqb}
+use Rattle.book.proofs.Turns.{current-low, current-block, current-self}
 use Rattle.engine.specs.Checking.{Ring, isRecent}
+use Rattle.engine.specs.Owning.{sized}
 
 -- ---- some blocks back from a block
 
@@ -34,14 +35,29 @@ module _ (nb p last : ℕ) (g : Ring nb p last) where
   pub block-of : (t : ℕ) → t ≤ p → p - t < nb → (last + nb - (p - t)) % nb ≡ t % nb
   block-of t h k = back-from (p - t) (omega arith) k ∙ ap (λ (n : ℕ). n % nb) (sub-sub-self h)
 
-  -- a block above P is unused, and its turn is then read as P
-  pub unused-turn : (i : ℕ) → p < i → p ≡ p - (p - i) % nb
-  unused-turn i h = omega (arith, mod-le (p - i) nb)
+-- a block above P is unused, and its turn is then read as P
+pub unused-turn : (nb p i : ℕ) → p < i → p ≡ p - (p - i) % nb
+unused-turn nb p i h = omega (arith, mod-le (p - i) nb)
 
 -- the current turn of a used block stands there
 pub turn-block : (nb p i t : ℕ) → i < nb → t ≡ p - (p - i) % nb → leb i p ≡ true → t % nb ≡ i
 unfolding currentTurn
-turn-block nb p i t h e u = ap (λ (n : ℕ). n % nb) e ∙ current-block (record { nb = nb; ne = 0; t = 0 }) p i h (leb→le i p (rw u tt))
+turn-block nb p i t h e u = ap (λ (n : ℕ). n % nb) e ∙ current-block (sized nb 0) p i h (leb→le i p (rw u tt))
+
+-- a turn is its block's current one exactly if it is recent
+pub current-recent : (z : Size) (p u : ℕ) → 0 < z .nb → eqb (currentTurn z p (blockOf z u)) u ≡ isRecent (z .nb) p u
+current-recent z p u pos =
+    cases (leb u p)
+    (λ s.
+    let k = leb→le u p s in
+    current-self z p u pos k
+    ∙ same-test (ltb p (u + z .nb)) (isRecent (z .nb) p u)
+    (λ e. let q = ltb→lt p (u + z .nb) e in and-in (leb u p) (ltb (p - u) (z .nb)) s (lt→ltb (p - u) (z .nb) (omega arith)))
+    (λ e. let q = ltb→lt (p - u) (z .nb) (and-second (leb u p) (ltb (p - u) (z .nb)) e) in lt→ltb p (u + z .nb) (omega arith)))
+    (λ s.
+    let k = nleb→lt u p s in
+    neq→eqb (currentTurn z p (blockOf z u)) u (λ e. omega (arith, current-low z p (blockOf z u)))
+    ∙ sym (ap (λ (b : Bool). b && ltb (p - u) (z .nb)) (not→false (leb u p) s)))
 
 -- ---- among the last NB turns up to P, as a test said
 

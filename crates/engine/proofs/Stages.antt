@@ -18,12 +18,10 @@ use Rattle.line.specs.Line.{Spot, deskOf}
 use Rattle.line.specs.Rules.{heldIn}
 use Rattle.line.specs.Check.{isIdle, holdsAt, clashes}
 use Rattle.engine.specs.Checking.{isHolding, isRecent, obeys3}
+use Rattle.engine.specs.Stepping.{spotOf}
 
 abbrev desk : ℕ → Spot → LentDesk
 desk n s = record { stage = n; place = s .place; turn = s .turn }
-
-abbrev spot : LentDesk → Spot
-spot x = record { turn = x .turn; place = x .place }
 
 -- the tests of a number that is no stage
 record None (n : ℕ) : Type 0 where
@@ -53,10 +51,10 @@ module _ (P : LentDesk → Type 0) (a : (s : Spot) → P (desk 0 s)) (b : (s : S
   by-number s (suc (suc (suc (suc n)))) = let m = suc (suc (suc (suc n))) in e s m (none m (omega arith))
 
   by-stage : (x : LentDesk) → P x
-  by-stage x = by-number (spot x) (x .stage)
+  by-stage x = by-number (spotOf x) (x .stage)
 
 -- what holds of the four kinds of desk holds of what is read off the numbers
-pub of-desk : (P : Desk Spot → Type 0) (x : LentDesk) → P idle → P (looked (spot x)) → P (claimed (spot x)) → P (fetched (spot x)) → P (deskOf x)
+pub of-desk : (P : Desk Spot → Type 0) (x : LentDesk) → P idle → P (looked (spotOf x)) → P (claimed (spotOf x)) → P (fetched (spotOf x)) → P (deskOf x)
 unfolding deskOf
 of-desk P x a b c d =
     by-test P (eqb (x .stage) 1) (λ s. b) (λ s. by-test P (eqb (x .stage) 2) (λ s. c) (λ s. by-test P (eqb (x .stage) 3) (λ s. d) (λ s. a)))
@@ -96,21 +94,21 @@ or-false false = refl
 abbrev same : Spot → Spot → Bool → Bool
 same s u h = h && eqb (u .turn) (s .turn) && eqb (u .place) (s .place)
 
-at-of : (s : Spot) (y : LentDesk) → same s (spot y) (isHolding y) ≡ holdsAt s (deskOf y)
+at-of : (s : Spot) (y : LentDesk) → same s (spotOf y) (isHolding y) ≡ holdsAt s (deskOf y)
 unfolding deskOf
 at-of s =
-    by-stage (λ y. same s (spot y) (isHolding y) ≡ holdsAt s (deskOf y)) (λ u. refl) (λ u. refl) (λ u. refl) (λ u. refl)
+    by-stage (λ y. same s (spotOf y) (isHolding y) ≡ holdsAt s (deskOf y)) (λ u. refl) (λ u. refl) (λ u. refl) (λ u. refl)
     (λ u n w. simp (w .first, w .second, w .third))
 
-clash-of : (y x : LentDesk) → same (spot x) (spot y) (isHolding x && isHolding y) ≡ clashes (deskOf x) (y ∷ [])
+clash-of : (y x : LentDesk) → same (spotOf x) (spotOf y) (isHolding x && isHolding y) ≡ clashes (deskOf x) (y ∷ [])
 unfolding deskOf any
 clash-of y =
-    let e : (s : Spot) → same s (spot y) (isHolding y) ≡ (holdsAt s (deskOf y) || false) = λ s. at-of s y ∙ or-false (holdsAt s (deskOf y)) in
-    by-stage (λ x. same (spot x) (spot y) (isHolding x && isHolding y) ≡ clashes (deskOf x) (y ∷ [])) (λ s. refl) (λ s. refl) e e
+    let e : (s : Spot) → same s (spotOf y) (isHolding y) ≡ (holdsAt s (deskOf y) || false) = λ s. at-of s y ∙ or-false (holdsAt s (deskOf y)) in
+    by-stage (λ x. same (spotOf x) (spotOf y) (isHolding x && isHolding y) ≡ clashes (deskOf x) (y ∷ [])) (λ s. refl) (λ s. refl) e e
     (λ s n w. simp (w .first, w .second, w .third))
 
-pub clash : (x y : LentDesk) (g h : Bool) → g ≡ isHolding x → h ≡ isHolding y → same (spot x) (spot y) (g && h) ≡ clashes (deskOf x) (y ∷ [])
-clash x y g h d e = ap₂ (λ (a b : Bool). same (spot x) (spot y) (a && b)) d e ∙ clash-of y x
+pub clash : (x y : LentDesk) (g h : Bool) → g ≡ isHolding x → h ≡ isHolding y → same (spotOf x) (spotOf y) (g && h) ≡ clashes (deskOf x) (y ∷ [])
+clash x y g h d e = ap₂ (λ (a b : Bool). same (spotOf x) (spotOf y) (a && b)) d e ∙ clash-of y x
 
 -- a desk that holds nothing clashes with none
 free-of : (ys : List LentDesk) (x : LentDesk) → isHolding x ≡ false → clashes (deskOf x) ys ≡ false

@@ -16,11 +16,11 @@ use Rattle.line.specs.Check.{fit, check}
 use Rattle.line.specs.Survey.{seenFrom, views, surveys, survey}
 use Rattle.line.proofs.Check.{Says, checked}
 use Rattle.engine.specs.Lent.{lentTable, lineOf}
-use Rattle.engine.specs.Surveying.{maySee}
+use Rattle.engine.specs.Stepping.{mayLook}
 use Rattle.engine.proofs.Lent.{lent-at}
 use Rattle.engine.proofs.Fits.{Sized, sized, fit-by}
 use Rattle.engine.proofs.Mask.{told, told-views, bitsFrom, bits-length, maskDown}
-use Rattle.engine.proofs.Looks.{sees, seen-is}
+use Rattle.engine.proofs.Looks.{seen, sees, seen-is}
 
 pub survey-by : (l : Line) (c : Checked) → c ≡ check l → surveys l c ≡ survey l
 unfolding survey
@@ -33,7 +33,7 @@ seen-bits l f (suc n) i h = ap₂ (λ (b : Bool) (bs : List Bool). b ∷ bs) (h 
 
 -- the bit of block i
 abbrev pub bitAt : ℕ → ℕ → ℕ → List Block → ℕ → Bool
-bitAt nb p k t i = maySee nb p k i (getD t i unused)
+bitAt nb p k t i = seen (mayLook nb p k i (getD t i unused))
 
 module _ (h : Head) (t : List Block) (n m : ℕ) (long : length t ≡ 64) (sound : Sound ≡ check (lineOf h t n (replicate m 0))) where
   abbrev l : Line
@@ -50,7 +50,7 @@ module _ (h : Head) (t : List Block) (n m : ℕ) (long : length t ≡ 64) (sound
   seen-at : (i : ℕ) → i < h .nb → sees l i ≡ at i
   seen-at i k =
       let s = sound-sized in let v = s .limits in
-      seen-is l i (omega arith) k ∙ ap (maySee (h .nb) (h .p) (h .k) i) (lent-at n (omega (arith, s .blocks)) t i unused (omega (arith, s .blocks)))
+      seen-is l i (omega arith) k ∙ ap (λ (c : Block). seen (mayLook (h .nb) (h .p) (h .k) i c)) (lent-at n (omega (arith, s .blocks)) t i unused (omega (arith, s .blocks)))
 
   pub survey-sound : told (maskDown at (h .nb) 0) ≡ survey l
   unfolding surveys

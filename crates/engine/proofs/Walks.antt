@@ -8,7 +8,6 @@ use native.Mathlib.Omega.{arith}
 use lib.ListN.{length, length-map, getD, drop, drop-of-length-le}
 use lib.Seq.{drop-cons, drop-nil}
 use lib.Dec.{eqb}
-use Rattle.book.specs.Choice.{if_then_else_}
 use Rattle.book.specs.Total.{total, any, all}
 use Rattle.book.specs.Steps.{Desk, idle, looked, claimed, fetched}
 use Rattle.book.proofs.Choice.{cases, T→true, not→false, and-false}
@@ -17,6 +16,7 @@ use Rattle.line.specs.declared.Desk.{Desk as LentDesk}
 use Rattle.line.specs.Line.{Spot, lent, deskOf}
 use Rattle.line.specs.Rules.{heldIn}
 use Rattle.line.specs.Check.{holdsAt, clashes, noClash}
+use Rattle.engine.proofs.Mask.{bit-le}
 use Rattle.engine.proofs.Stages.{or-false}
 
 -- as many desks as a head's array has
@@ -28,15 +28,11 @@ at ds d = getD ds d (lent idle)
 
 -- ---- counting those that hold in a turn
 
-choice-le : (b : Bool) → (if b then 1 else 0) ≤ 1
-choice-le true = omega arith
-choice-le false = omega arith
-
 pub held-le : (t : ℕ) (x : Desk Spot) → heldIn t x ≤ 1
 held-le t idle = omega arith
 held-le t (looked s) = omega arith
-held-le t (claimed s) = choice-le (eqb (s .turn) t)
-held-le t (fetched s) = choice-le (eqb (s .turn) t)
+held-le t (claimed s) = bit-le (eqb (s .turn) t)
+held-le t (fetched s) = bit-le (eqb (s .turn) t)
 
 pub held-few : (t : ℕ) (ds : List LentDesk) (r : ℕ) → length ds ≡ 16 → r ≡ total (λ x. heldIn t (deskOf x)) ds → r ≤ 16
 held-few t ds r h e = omega (arith, total-le (λ x. heldIn t (deskOf x)) (λ x. held-le t (deskOf x)) ds)

@@ -2,20 +2,18 @@
 -- block of a current turn is owned if the turn is at most K.
 use mathlib.Core.Path.{_≡_, refl, _∙_}
 use mathlib.Core.Bool.{true, false, not, _&&_}
-use Prim.Native.Nat.{ℕ, _+_, _-_, _≤_, _<_}
+use Prim.Native.Nat.{ℕ, _≤_, _<_}
 use native.Mathlib.Nat.{mod-le}
 use native.Mathlib.Omega.{arith}
-use lib.Dec.{leb, eqb, leb→le, nleb→lt}
-use borrow.Author.Tests.{lt-ltb, le-ltb, le-leb, lt-leb, ltb-false, eqb-true, ne-eqb}
+use lib.Dec.{leb, eqb}
+use borrow.Author.Tests.{le-leb, lt-leb, eqb-true}
 use Rattle.book.specs.Sizes.{Size, blockOf, currentTurn, isOwned}
-use Rattle.book.proofs.Choice.{cases, T→true}
-use Rattle.book.proofs.Turns.{current-low, current-self}
 use Rattle.line.specs.declared.Block.{Block}
 use Rattle.line.specs.declared.Desk.{Desk as LentDesk}
 use Rattle.engine.specs.Checking.{isRecent}
 use Rattle.engine.specs.Owning.{sized}
 use Rattle.engine.specs.Stepping.{wins}
-use Rattle.engine.proofs.Ring.{recent→le, recent→near}
+use Rattle.engine.proofs.Ring.{current-recent, recent→le}
 
 module _ (nb p k : ℕ) (c : Block) (x : LentDesk) (pos : 1 ≤ nb) where
   abbrev z : Size
@@ -27,21 +25,13 @@ module _ (nb p k : ℕ) (c : Block) (x : LentDesk) (pos : 1 ≤ nb) where
   abbrev i : ℕ
   i = blockOf z u
 
-  not-recent : isRecent nb p u ≡ false → eqb (currentTurn z p i) u ≡ false
-  not-recent e =
-      cases (leb u p)
-      (λ s. let h = leb→le u p s in let far = ltb-false (p - u) nb (rw (T→true (leb u p) s) at e) in current-self z p u pos h ∙ le-ltb p (u + nb) (omega arith))
-      (λ s. let h = nleb→lt u p s in ne-eqb (currentTurn z p i) u (λ q. omega (arith, current-low z p i)))
-
   pub not-current : isRecent nb p u ≡ false → false ≡ wins nb p k c x
   unfolding wins
-  not-current e = rw (not-recent e)
+  not-current e = rw (current-recent z p u pos ∙ e)
 
   module _ (e : isRecent nb p u ≡ true) where
     current : eqb (currentTurn z p i) u ≡ true
-    current =
-        let h = recent→le nb p u (isRecent nb p u) refl e in let near = recent→near nb p u (isRecent nb p u) refl e in
-        current-self z p u pos h ∙ lt-ltb p (u + nb) (omega arith)
+    current = current-recent z p u pos ∙ e
 
     won-by : wins nb p k c x ≡ (not (leb u k) && eqb (c .claimed) (x .place))
     unfolding wins isOwned

@@ -20,14 +20,15 @@ lineOf h t n es = record { head = h; table = lentTable t n; entries = es }
 unfoldable pub putBack : List Block → ℕ → List Block → List Block
 putBack t n lent = if n ≤ᵇ 64 then lent ++ drop n t else t
 
-pub record Given : Type 0 where
-  pub answer : Answer
+-- what a call gives, whose answers are of A
+pub record Given (A : Type 0) : Type 0 where
+  pub answer : A
   pub head : Head
   pub table : List Block
   pub entries : List ℕ
 
-abbrev pub given : Went → List ℕ → Given
+abbrev pub given : Went → List ℕ → Given Answer
 given r es = record { answer = r .answer; head = r .head; table = r .table; entries = es }
 
-abbrev pub gave : List Block → ℕ → Outcome → Given
+abbrev pub gave : List Block → ℕ → Outcome → Given Answer
 gave t n o = record { answer = o .answer; head = o .line .head; table = putBack t n (o .line .table); entries = o .line .entries }

@@ -4,4 +4,3 @@ pub mod Opens
 pub mod Checking
 pub mod Owning
 pub mod Stepping
-pub mod Surveying

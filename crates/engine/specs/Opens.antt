@@ -8,19 +8,13 @@ use Rattle.line.specs.declared.Head.{Head}
 use Rattle.line.specs.declared.Opening.{Opening}
 use Rattle.line.specs.Calls.{Opened as Outcome, opens}
 use Rattle.engine.specs.declared.opening.Opened.{Opened}
-use Rattle.engine.specs.Lent.{lineOf, putBack}
+use Rattle.engine.specs.Lent.{lineOf, putBack, Given}
 
 -- what opening gives back, and what it is to give: the lent records stand in front of the others
-pub record Begun : Type 0 where
-  pub answer : Opening
-  pub head : Head
-  pub table : List Block
-  pub entries : List ℕ
-
-abbrev pub begun : Opened → List ℕ → Begun
+abbrev pub begun : Opened → List ℕ → Given Opening
 begun r es = record { answer = r .answer; head = r .head; table = r .table; entries = es }
 
-abbrev pub began : List Block → ℕ → Outcome → Begun
+abbrev pub began : List Block → ℕ → Outcome → Given Opening
 began t n o = record { answer = o .answer; head = o .line .head; table = putBack t n (o .line .table); entries = o .line .entries }
 
 abbrev pub Opens : Head → List Block → ℕ → List ℕ → Size → Opened → List ℕ → Type 0

@@ -84,7 +84,7 @@ fn current_turn(nb: u32, p: u32, i: u32) -> u32
 }
 
 // May a desk see something at block i, whose record is c. A block above P is unused, and not owned.
-fn may_look(nb: u32, p: u32, k: u32, i: u32, c: Block) -> Verdict
+pub fn may_look(nb: u32, p: u32, k: u32, i: u32, c: Block) -> Verdict
     requires { ⌜ 1 ≤ nb ⌝ }
     ensures { λ r. ⌜ verdictOf r ≡ mayLook nb p k i c ⌝ }
 {

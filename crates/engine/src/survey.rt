@@ -1,35 +1,26 @@
 // The survey: at which blocks an idle desk's look would be SEEN, as a mask, their number, and the lowest of them.
 use super::check::check;
+use super::desks::may_look;
+use super::owner::Verdict;
 use line::Block;
 use line::Checked;
 use line::Head;
 use line::Surveyed;
 use line::Views;
 ghost use mathlib.Core.Path.{_≡_};
-ghost use Prim.Native.Nat.{_<_};
-ghost use Rattle.line.specs.Survey.{none, bit};
+ghost use Rattle.book.specs.Verdicts.{judge};
+ghost use Rattle.line.specs.Survey.{none};
 ghost use Rattle.engine.specs.Promises.{Surveys};
-ghost use Rattle.engine.specs.Surveying.{maySee};
+ghost use Rattle.engine.specs.Owning.{verdictOf};
 
-// Would an idle desk's look at block i, whose record is c, be SEEN: a label waits, and the block is used and not owned.
-fn may_see(p: u32, k: u32, nb: u32, i: u32, c: Block) -> bool
-    requires { ⌜ 0 < nb ⌝ }
-    ensures { λ r. ⌜ r ≡ maySee nb p k i c ⌝ }
+// The bit of a block, by the verdict on an idle desk's look at it.
+fn bit(v: Verdict) -> u64
+    ensures { λ r. ⌜ r ≡ judge (verdictOf v) 1 (λ w. 0) ⌝ }
 {
-    if c.claimed == c.written {
-        return false;
+    match v {
+        Verdict::Takes => 1,
+        Verdict::Refuses(_) => 0,
     }
-    if p < i {
-        return false;
-    }
-    let back = (p - i) % nb;
-    k < p - back
-}
-
-fn bit(seen: bool) -> u64
-    ensures { λ r. ⌜ r ≡ bit seen ⌝ }
-{
-    if seen { 1 } else { 0 }
 }
 
 // A refused survey.
@@ -60,7 +51,7 @@ pub fn survey(h: Head, table: [Block; 64], n: usize, m: usize) -> Views
             while 0 < i {
                 i = i - 1;
                 let at = i as usize;
-                mask = 2 * mask + bit(may_see(p, k, nb, i, table[at]));
+                mask = 2 * mask + bit(may_look(nb, p, k, i, table[at]));
             }
             Views {
                 answer: Surveyed::Survey,

@@ -1,13 +1,13 @@
 -- A block below 64 with at most 64 entries: the product fits.
 use Prim.Native.Nat.{_*_, _≤_}
-use native.Mathlib.Nat.{mul-le-mul}
 use native.Mathlib.Omega.{arith}
 use borrow.Author.Needs.{needs}
+use Rattle.engine.proofs.Records.{product}
 use Rattle.engine.proofs.owner.entry.Statement.{statement}
 use Rattle.engine.proofs.owner.entry.Tie as tie
 
 few : (c : tie.Start) → c .args .block * c .args .ne ≤ 64 * 64
-few c = mul-le-mul {n₁ = c .args .block} {m₁ = c .args .ne} {n₂ = 64} {m₂ = 64} (omega arith) (omega arith)
+few c = product (c .args .block) (c .args .ne) 64 64 (omega arith) (omega arith)
 
 pub entry-spec : {M : Type 1} → statement M
 entry-spec = tie.close (tie.spec (λ c. omega (arith, few c)) (λ c. omega (arith, few c)) (λ c. search needs))

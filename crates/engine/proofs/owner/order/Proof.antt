@@ -40,7 +40,7 @@ order-spec =
     tie.close
     (tie.spec Inv-loop μ-loop
     (λ c κs. search needs)
-    (λ c. order-range _ _ _ _ _ (blocks _ _ _ (c .before .before .before .pre) .1) (sym (c .before .is-order .ensures) ∙ not-true _ (c .if1 .taken)))
+    (λ c. order-range _ _ _ _ _ (sym (c .before .is-order .ensures) ∙ not-true _ (c .if1 .taken)))
     (λ c. search needs) (λ c. search needs)
     (λ c κs. blocks _ _ _ (c .before .before .before .before .before .pre))
     (λ c.

@@ -3,6 +3,7 @@ use mathlib.Core.Path.{_≡_, sym, ap, _∙_}
 use mathlib.Core.List.{List}
 use Prim.Native.Nat.{ℕ}
 use borrow.Author.Needs.{needs}
+use Rattle.words.specs.declared.Answer.{Answer}
 use Rattle.words.specs.declared.Refusal.{Refusal}
 use Rattle.words.specs.declared.Refusal.the-variants.{Badstep}
 use Rattle.book.specs.Steps.{Step}
@@ -16,7 +17,7 @@ use Rattle.engine.specs.Owning.{verdictOf}
 use Rattle.engine.specs.Stepping.{deedOf}
 use Rattle.engine.specs.declared.step.Deed.{Deed as Asked}
 use Rattle.engine.proofs.Walks.{length-of}
-use Rattle.engine.proofs.LentMore.{refused}
+use Rattle.engine.proofs.Lent.{refused}
 use Rattle.engine.proofs.Called.{Goes, Stops, goes, stops}
 use Rattle.engine.proofs.step.step.Statement.{statement}
 use Rattle.engine.proofs.step.step.Tie as tie
@@ -55,7 +56,7 @@ module _ (c : tie.After-deed-of) where
   sound : Goes (h m) (t m) (n m) (es m)
   sound = passed m (ap verdictOf (c .before .enum-told .given .1))
 
-  does-it : (d : Asked) (o : Given) → c .deed-of .result ≡ d → o ≡ gave (t m) (h m .nb) (does (sizeOf (h m)) (lineOf (h m) (t m) (h m .nb) (es m)) (deedOf d)) → o ≡ gave (t m) (n m) (step (lineOf (h m) (t m) (n m) (es m)) (s m))
+  does-it : (d : Asked) (o : Given Answer) → c .deed-of .result ≡ d → o ≡ gave (t m) (h m .nb) (does (sizeOf (h m)) (lineOf (h m) (t m) (h m .nb) (es m)) (deedOf d)) → o ≡ gave (t m) (n m) (step (lineOf (h m) (t m) (n m) (es m)) (s m))
   does-it d o e = sound .step-is (s m) (deedOf d) o (ap deedOf (sym e) ∙ c .deed-of .ensures)
 
 pub step-spec : {M : Type 1} → statement M

@@ -3,7 +3,10 @@ use Prim.Native.Nat.{_^_, _≤_, _<_}
 use native.Mathlib.Omega.{arith}
 use borrow.Author.Needs.{needs}
 use lib.ListN.{length}
-use Rattle.line.specs.Survey.{surveys}
+use Rattle.book.specs.Verdicts.{Verdict}
+use Rattle.line.specs.Survey.{bit, surveys}
+use Rattle.engine.specs.Owning.{verdictOf}
+use Rattle.engine.proofs.Looks.{seen, seen-bit}
 use Rattle.engine.proofs.Mask.{bit-le, maskDown, mask-none, mask-more, mask-room, told}
 use Rattle.engine.proofs.Surveying.{bitAt, survey-by, sound-sized, survey-sound}
 use Rattle.engine.proofs.survey.survey.Statement.{statement}
@@ -34,7 +37,8 @@ add-mask : tie.Need-add-mask Inv-loop μ-loop
 add-mask c =
     let l = c .before .before .before .before .loop in
     let r : l .mask < 2 ^ 63 = mask-room _ _ (l .i) (l .mask) (c .before .before .before .loop-test .taken) (l .inv .1) (l .inv .3) in
-    omega (arith, c .bit .ensures, bit-le (c .before .may-see .result))
+    let v = verdictOf (c .before .may-look .result) in
+    omega (arith, c .bit .ensures, seen-bit v, bit-le (seen v))
 
 loop-again : tie.Need-loop-again Inv-loop μ-loop
 loop-again c =
@@ -42,7 +46,7 @@ loop-again c =
       l .inv .0,
       l .inv .1,
       search needs,
-      mask-more _ _ (l .i) (l .mask) _ _ (c .before .before .before .loop-test .taken) (l .inv .2) (l .inv .3) (c .bit .ensures) (c .before .may-see .ensures),
+      mask-more _ _ (l .i) (l .mask) _ (c .before .before .before .loop-test .taken) (l .inv .2) (l .inv .3) (c .bit .ensures ∙ seen-bit (verdictOf (c .before .may-look .result)) ∙ ap (λ (v : Verdict). bit (seen v)) (c .before .may-look .ensures)),
     )
 
 returns : tie.Need-returns Inv-loop μ-loop
