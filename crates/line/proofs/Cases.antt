@@ -11,7 +11,7 @@ use Rattle.line.specs.Check as C
 use Rattle.line.specs.Calls.{opens, step, orders, answers, after}
 use Rattle.line.specs.Survey.{seenFrom, maskOf, lowestFrom, views, surveys, survey}
 use Rattle.line.specs.Damaged.{SoundCases, UnfitCases, Rule1Cases, Rule2Cases, Rule3Cases, PairCases, Rule4Cases, Rule5Cases, Rule6Cases, Rule7Cases, SeveralCases}
-use Rattle.line.specs.Cases.{ListingCases, RunCases, WornCases, WayCases, StepCases, RefusedCases, OrderCases, SurveyCases, OpeningCases}
+use Rattle.line.specs.Cases.{ListingCases, RunCases, WornCases, WayCases, StepCases, RefusedCases, OrderCases, SurveyCases, OpeningCases, IdleCases}
 
 -- ---- what is computed with: to unfold one of these is to unfold all that it names
 
@@ -122,3 +122,7 @@ survey-cases = refl
 pub opening-cases : OpeningCases
 unfolding calls OpeningCases
 opening-cases = refl
+
+pub idle-cases : IdleCases
+unfolding IdleCases
+idle-cases = refl

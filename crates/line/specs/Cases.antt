@@ -9,7 +9,7 @@ use Rattle.words.specs.declared.Refusal.the-variants.{Unfit, Damaged, Badstep, 
 use Rattle.words.specs.declared.Refusal.the-variants.{Lost, Notlabel, Range, Worn, Full, Busy, Empty}
 use Rattle.book.specs.Sizes.{Size}
 use Rattle.book.specs.Steps.{Step, idle, looked, claimed, fetched}
-use Rattle.line.specs.Line.{Line, Outcome, says, opened}
+use Rattle.line.specs.Line.{Line, Outcome, says, lent, opened}
 use Rattle.line.specs.Calls.{Opened, open·line, open·unfit, opens, step, orders, answers, after}
 use Rattle.line.specs.Survey.{Surveyed, surveyed, survey·unfit, survey·damaged, Views, survey}
 use Rattle.line.specs.Samples.{size, spot, fresh, started, middle, read, won, ends, stolen, five, lengths, short}
@@ -345,3 +345,8 @@ OpeningCases =
     ∷ leaves fresh (size 2 2 0)
     ∷ leaves fresh (size 2 2 17)
     ∷ [])
+
+-- ---- a desk that a step makes idle, and each of opening's, is written as zeros
+
+unfoldable pub IdleCases : Type 0
+IdleCases = lent idle ≡ record { stage = 0; place = 0; turn = 0 }
