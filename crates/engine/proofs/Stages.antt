@@ -17,7 +17,7 @@ use Rattle.line.specs.declared.Desk.{Desk as LentDesk}
 use Rattle.line.specs.Line.{Spot, deskOf}
 use Rattle.line.specs.Rules.{heldIn}
 use Rattle.line.specs.Check.{isIdle, holdsAt, clashes}
-use Rattle.engine.specs.Checking.{isHolding, isRecent, obeys3}
+use Rattle.engine.specs.Checking.{isHolding, isRecent, noTurn, heldTurn, isTurn, obeys3}
 use Rattle.engine.specs.Stepping.{spotOf}
 
 abbrev desk : ℕ → Spot → LentDesk
@@ -70,20 +70,24 @@ stray o =
     by-stage (λ x. x .stage ≢ 0 → (leb (x .stage) 3 && o (deskOf x) && isIdle (deskOf x)) ≡ false) (λ s k. absurd (k refl))
     (λ s k. and-false (o (looked s))) (λ s k. and-false (o (claimed s))) (λ s k. and-false (o (fetched s))) (λ s n w k. rw (w .above))
 
--- ---- claimed or fetched in a turn
+-- ---- the turn in which a desk has claimed or fetched
 
-one : (b : Bool) → boolByte b ≡ (if b then 1 else 0)
+pub one : (b : Bool) → boolByte b ≡ (if b then 1 else 0)
 one true = refl
 one false = refl
 
-held-of : (t : ℕ) (x : LentDesk) → boolByte (isHolding x && eqb (x .turn) t) ≡ heldIn t (deskOf x)
-unfolding deskOf
-held-of t =
-    by-stage (λ x. boolByte (isHolding x && eqb (x .turn) t) ≡ heldIn t (deskOf x)) (λ s. refl) (λ s. refl)
-    (λ s. one (eqb (s .turn) t)) (λ s. one (eqb (s .turn) t)) (λ s n w. simp (w .first, w .second, w .third))
+pub turn-held : (x : LentDesk) (b : Bool) → b ≡ isHolding x → b ≡ true → x .turn ≡ heldTurn x
+turn-held x b e k = rw (sym e, k) refl
 
-pub held : (x : LentDesk) (t : ℕ) (h : Bool) → h ≡ isHolding x → boolByte (h && eqb (x .turn) t) ≡ heldIn t (deskOf x)
-held x t h e = ap (λ (b : Bool). boolByte (b && eqb (x .turn) t)) e ∙ held-of t x
+pub turn-none : (x : LentDesk) (b : Bool) → b ≡ isHolding x → b ≡ false → noTurn ≡ heldTurn x
+turn-none x b e k = rw (sym e, k) refl
+
+-- a turn is below the number that stands for none, and so counts as the desks that hold in it
+pub held : (t : ℕ) → t < noTurn → (x : LentDesk) → isTurn t (heldTurn x) ≡ heldIn t (deskOf x)
+unfolding deskOf
+held t h =
+    let none : isTurn t noTurn ≡ 0 = ap (λ (b : Bool). if b then 1 else 0) (ne-eqb noTurn t (λ e. omega arith)) in
+    by-stage (λ x. isTurn t (heldTurn x) ≡ heldIn t (deskOf x)) (λ s. none) (λ s. none) (λ s. refl) (λ s. refl) (λ s n w. rw (w .first, w .second, w .third) none)
 
 -- ---- two desks at one turn and place
 

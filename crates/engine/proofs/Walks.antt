@@ -1,23 +1,25 @@
 -- Along the desks by their places.
 use mathlib.Core.Path.{_≡_, refl, sym, ap, ap₂, _∙_}
 use mathlib.Core.Bool.{Bool, true, false, not, _&&_, _||_}
-use mathlib.Core.List.{List, [], _∷_, map}
-use Prim.Native.Nat.{ℕ, zero, suc, _+_, _-_, _≤_, _<_}
+use mathlib.Core.List.{List, [], _∷_, _++_, map, append-nil}
+use Prim.Native.Nat.{ℕ, zero, suc, _+_, _-_, _*_, _%_, _≤_, _<_}
+use native.Mathlib.Nat.{le-of-suc-le-suc}
 use native.Mathlib.Numerals.{add-one}
 use native.Mathlib.Omega.{arith}
-use lib.ListN.{length, length-map, getD, drop, drop-of-length-le}
-use lib.Seq.{drop-cons, drop-nil}
-use lib.Dec.{eqb}
+use lib.ListN.{length, length-map, getD, set, take, drop, drop-of-length-le}
+use lib.Seq.{take-all, drop-cons, drop-nil}
+use lib.Dec.{ltb, eqb, ltb→lt}
 use Rattle.book.specs.Total.{total, any, all}
 use Rattle.book.specs.Steps.{Desk, idle, looked, claimed, fetched}
-use Rattle.book.proofs.Choice.{cases, T→true, not→false, and-false}
+use Rattle.book.proofs.Choice.{cases, T→true, not→false, and-second, and-false}
 use Rattle.book.proofs.Total.{total-le}
 use Rattle.line.specs.declared.Desk.{Desk as LentDesk}
 use Rattle.line.specs.Line.{Spot, lent, deskOf}
 use Rattle.line.specs.Rules.{heldIn}
 use Rattle.line.specs.Check.{holdsAt, clashes, noClash}
+use Rattle.engine.specs.Checking.{isRecent, noTurn, heldTurn, isTurn}
 use Rattle.engine.proofs.Mask.{bit-le}
-use Rattle.engine.proofs.Stages.{or-false}
+use Rattle.engine.proofs.Stages.{held, or-false}
 
 -- as many desks as a head's array has
 pub length-of : (X Y : Type 0) (f : X → Y) (l : List X) (n : ℕ) → length (map f l) ≡ n → length l ≡ n
@@ -37,14 +39,42 @@ held-le t (fetched s) = bit-le (eqb (s .turn) t)
 pub held-few : (t : ℕ) (ds : List LentDesk) (r : ℕ) → length ds ≡ 16 → r ≡ total (λ x. heldIn t (deskOf x)) ds → r ≤ 16
 held-few t ds r h e = omega (arith, total-le (λ x. heldIn t (deskOf x)) (λ x. held-le t (deskOf x)) ds)
 
-module _ (ds : List LentDesk) (f : LentDesk → ℕ) where
-  pub count-more : (count d r : ℕ) → d < length ds → r ≡ f (at ds d) → total f ds ≡ count + total f (drop d ds) → total f ds ≡ count + r + total f (drop (d + 1) ds)
+module _ {A : Type 0} (x₀ : A) (ds : List A) (f : A → ℕ) where
+  pub count-more : (count d r : ℕ) → d < length ds → r ≡ f (getD ds d x₀) → total f ds ≡ count + total f (drop d ds) → total f ds ≡ count + r + total f (drop (d + 1) ds)
   unfolding total
-  count-more count d r h e k = k ∙ rw (add-one, drop-cons ds d (lent idle)) (omega arith)
+  count-more count d r h e k = k ∙ rw (add-one, drop-cons ds d x₀) (omega arith)
 
   pub count-end : (d : ℕ) → length ds ≤ d → total f (drop d ds) ≡ 0
   unfolding total
   count-end d h = rw drop-of-length-le
+
+-- ---- the turns that are held, made one by one
+
+-- the first n of a list are f of those of xs, and the others as they were
+module _ {A B : Type 0} (f : A → B) (x₀ : A) where
+  abbrev pub mapped : ℕ → List A → List B → List B
+  mapped n xs ys = map f (take n xs) ++ drop n ys
+
+  map-suc : (n : ℕ) (xs : List A) (ys : List B) → n < length xs → n < length ys → set (mapped n xs ys) n (f (getD xs n x₀)) ≡ mapped (suc n) xs ys
+  map-suc n [] ys h k = absurd (omega arith)
+  map-suc n (x ∷ xs) [] h k = absurd (omega arith)
+  map-suc zero (x ∷ xs) (y ∷ ys) h k = refl
+  map-suc (suc n) (x ∷ xs) (y ∷ ys) h k = ap (λ (l : List B). f x ∷ l) (map-suc n xs ys (le-of-suc-le-suc h) (le-of-suc-le-suc k))
+
+  pub map-more : (n : ℕ) (xs : List A) (ys : List B) → n < length xs → n < length ys → set (mapped n xs ys) n (f (getD xs n x₀)) ≡ mapped (n + 1) xs ys
+  map-more n xs ys h k = rw add-one (map-suc n xs ys h k)
+
+  pub map-all : (n : ℕ) (xs : List A) (ys : List B) → length xs ≡ n → length ys ≡ n → mapped n xs ys ≡ map f xs
+  map-all n xs ys h k = ap₂ (λ (l : List A) (r : List B). map f l ++ r) (take-all n xs (omega arith)) (drop-of-length-le ys {i = n} (omega arith)) ∙ append-nil (map f xs)
+
+-- a line's turns are below the number that stands for none
+pub turn-few : (nb p k i t : ℕ) (r : Bool) → r ≡ (isRecent nb p k && ltb p (65536 * nb)) → r ≡ true → nb ≤ 64 → t ≡ p - (p - i) % nb → t < noTurn
+turn-few nb p k i t r e kept few stands = let below = ltb→lt p (65536 * nb) (and-second (isRecent nb p k) (ltb p (65536 * nb)) (rw (sym e, kept) tt)) in omega arith
+
+pub held-by-turn : (t : ℕ) (ds : List LentDesk) → t < noTurn → total (isTurn t) (map heldTurn ds) ≡ total (λ x. heldIn t (deskOf x)) ds
+unfolding total
+held-by-turn t [] h = refl
+held-by-turn t (x ∷ ds) h = ap₂ _+_ (held t h x) (held-by-turn t ds h)
 
 -- ---- two by two
 

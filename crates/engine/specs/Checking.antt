@@ -18,6 +18,17 @@ fitting z n m = fits z && n ≡ᵇ z .nb && m ≡ᵇ z .nb * z .ne
 abbrev pub isHolding : LentDesk → Bool
 isHolding x = x .stage ≡ᵇ 2 || x .stage ≡ᵇ 3
 
+-- The turn in which a desk has claimed or fetched. No turn is as large as the number that stands for none: rule 1 keeps
+-- turns below 65,536 × 64.
+abbrev pub noTurn : ℕ
+noTurn = 4294967295
+
+abbrev pub heldTurn : LentDesk → ℕ
+heldTurn x = if isHolding x then x .turn else noTurn
+
+abbrev pub isTurn : ℕ → ℕ → ℕ
+isTurn t x = if x ≡ᵇ t then 1 else 0
+
 -- the NB blocks, and the one of them in which turn P stands
 pub record Ring (nb p last : ℕ) : Type 0 where
   pub some : 0 < nb

@@ -4,21 +4,20 @@
 // NB blocks, as its current turn is before P.
 ghost use mathlib.Core.Path.{_≡_};
 ghost use mathlib.Core.Bool.{true, not};
-ghost use mathlib.Core.List.{[]};
+ghost use mathlib.Core.List.{[], map};
 ghost use Prim.Native.Nat.{_+_, _-_, _%_, _≤_, _<_};
 ghost use Rattle.book.specs.Total.{total};
-ghost use Rattle.line.specs.Line.{deskOf};
-ghost use Rattle.line.specs.Rules.{heldIn};
 ghost use Rattle.line.specs.Check.{noClash, holds3};
 ghost use Rattle.engine.specs.Lent.{lineOf};
 ghost use Rattle.engine.specs.Promises.{Checks};
-ghost use Rattle.engine.specs.Checking.{Ring, isRecent};
+ghost use Rattle.engine.specs.Checking.{Ring, isRecent, heldTurn, isTurn};
 use super::rules::clash;
 use super::rules::desk_rule;
 use super::rules::fits;
-use super::rules::held_in;
+use super::rules::held_turn;
 use super::rules::is_current;
 use super::rules::is_holding;
+use super::rules::is_turn;
 use super::rules::rule1;
 use super::rules::rule2;
 use super::rules::rule4;
@@ -66,13 +65,24 @@ fn current_turn(nb: u32, p: u32, last: u32, i: u32) -> u32
     p - back(nb, last, i)
 }
 
-// How many desks have claimed or fetched in the turn.
-fn holders(desks: [Desk; 16], turn: u32) -> u32
-    ensures { λ r. ⌜ r ≡ total (λ x. heldIn turn (deskOf x)) desks ⌝ }
+// The turn in which each desk has claimed or fetched, made once: the blocks are then asked over plain numbers.
+fn held_turns(desks: [Desk; 16]) -> [u32; 16]
+    ensures { λ r. ⌜ r ≡ map heldTurn desks ⌝ }
+{
+    let mut turns = [0u32; 16];
+    for d in 0..16 {
+        turns[d] = held_turn(desks[d]);
+    }
+    turns
+}
+
+// How many of them are the turn.
+fn holders(turns: [u32; 16], turn: u32) -> u32
+    ensures { λ r. ⌜ r ≡ total (isTurn turn) turns ⌝ }
 {
     let mut count = 0;
     for d in 0..16 {
-        count = count + held_in(desks[d], turn);
+        count = count + is_turn(turns[d], turn);
     }
     count
 }
@@ -146,6 +156,7 @@ pub fn check(h: Head, table: [Block; 64], n: usize, m: usize) -> Checked
         return Checked::Broken(64, 3);
     }
     let desks = h.desks;
+    let turns = held_turns(desks);
     for i in 0..n {
         let c = table[i];
         let b = i as u32;
@@ -160,7 +171,7 @@ pub fn check(h: Head, table: [Block; 64], n: usize, m: usize) -> Checked
         if !rule6(used, c, turn) {
             return Checked::Broken(b, 6);
         }
-        if !rule7(used, c, holders(desks, turn)) {
+        if !rule7(used, c, holders(turns, turn)) {
             return Checked::Broken(b, 7);
         }
     }

@@ -6,9 +6,8 @@ ghost use mathlib.Core.List.{[], _∷_};
 ghost use Prim.Native.Nat.{_*_, _%_, _≤_, _<_};
 ghost use Rattle.book.specs.Choice.{_<ᵇ_, _≤ᵇ_};
 ghost use Rattle.line.specs.Line.{deskOf};
-ghost use Rattle.line.specs.Rules.{heldIn};
 ghost use Rattle.line.specs.Check.{clashes};
-ghost use Rattle.engine.specs.Checking.{fitting, isHolding, isRecent, obeys2, obeys3, obeys4, obeys5, obeys6, obeys7};
+ghost use Rattle.engine.specs.Checking.{fitting, isHolding, isRecent, heldTurn, isTurn, obeys2, obeys3, obeys4, obeys5, obeys6, obeys7};
 use line::Block;
 use line::Desk;
 
@@ -69,11 +68,18 @@ pub fn clash(a: Desk, b: Desk) -> bool
     is_holding(a) & is_holding(b) & (b.turn == a.turn) & (b.place == a.place)
 }
 
-// 1 if the desk has claimed or fetched in the turn, or else 0.
-pub fn held_in(d: Desk, turn: u32) -> u32
-    ensures { λ r. ⌜ r ≡ heldIn turn (deskOf d) ⌝ }
+// The turn in which the desk has claimed or fetched; where it has not, a number that is no turn.
+pub fn held_turn(d: Desk) -> u32
+    ensures { λ r. ⌜ r ≡ heldTurn d ⌝ }
 {
-    (is_holding(d) & (d.turn == turn)) as u32
+    if is_holding(d) { d.turn } else { 4294967295 }
+}
+
+// 1 for the same turn, or else 0.
+pub fn is_turn(x: u32, turn: u32) -> u32
+    ensures { λ r. ⌜ r ≡ isTurn turn x ⌝ }
+{
+    (x == turn) as u32
 }
 
 // The round is the current turn's, and an unused block has zeros throughout. The turn of that round in

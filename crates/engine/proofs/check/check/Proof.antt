@@ -10,23 +10,24 @@ use borrow.Author.Tests.{not-true, not-false}
 use lib.ListN.{length, replicate}
 use Rattle.line.specs.declared.Block.{Block}
 use Rattle.line.specs.declared.Head.{Head}
-use Rattle.line.specs.Line.{Line}
-use Rattle.line.specs.Rules.{ofBlocks}
+use Rattle.book.specs.Total.{total}
+use Rattle.line.specs.Line.{Line, deskOf}
+use Rattle.line.specs.Rules.{heldIn, ofBlocks}
 use Rattle.line.specs.Check.{holds1, holds2, holds4, holds5, holds6, holds7, firstBroken, check}
 use Rattle.engine.specs.Lent.{lineOf}
-use Rattle.engine.specs.Checking.{Ring}
+use Rattle.engine.specs.Checking.{Ring, isTurn}
 use Rattle.engine.proofs.First.{Fitted, is-unfit, is-fit, head-1, head-2, head-3, head-past, block-4, block-5, block-6, block-7, block-past, no-more}
 use Rattle.engine.proofs.Plain.{bare, rule1, rule2, rule4, rule5, rule6, rule7}
 use Rattle.engine.proofs.Ring.{turn-block}
-use Rattle.engine.proofs.Walks.{length-of, held-few}
+use Rattle.engine.proofs.Walks.{length-of, held-few, turn-few, held-by-turn}
 use Rattle.engine.proofs.check.check.Statement.{statement}
 use Rattle.engine.proofs.check.check.Tie as tie
 
 abbrev Inv-loop : tie.InvT-loop
-Inv-loop h n m table p k nb last at desks i₀ i = (i ≤ n) × (check (lineOf h table n (replicate m 0)) ≡ firstBroken (bare h table) (ofBlocks i (n - i)))
+Inv-loop h n m table p k nb last at turns i₀ i = (i ≤ n) × (check (lineOf h table n (replicate m 0)) ≡ firstBroken (bare h table) (ofBlocks i (n - i)))
 
 abbrev μ-loop : tie.MeasureT-loop
-μ-loop h n m table p k nb last at desks i₀ i = n - i
+μ-loop h n m table p k nb last at turns i₀ i = n - i
 
 returns : tie.Need-returns Inv-loop μ-loop
 returns c = let a = c .before .before .args in is-unfit (a .h) (a .t2) (a .n) (a .m) (search needs) _ (c .before .fits2 .ensures) (not-true _ (c .if1 .taken))
@@ -84,14 +85,14 @@ returns-4 c =
 
 loop-holds : tie.Need-loop-holds Inv-loop μ-loop
 loop-holds c =
-    let e = c .before in let d = past3 e in let b = past2 d in let q = past1 b in
+    let e = c .before .before in let d = past3 e in let b = past2 d in let q = past1 b in
     (omega arith, fit q .order ∙ head-past _ _ (one b) (two d) (sym (e .before .rule3 .ensures) ∙ not-false _ (e .if4 .left)) ∙ ap (λ (k : ℕ). firstBroken (line q) (ofBlocks 0 k)) (sym (fit q .same) ∙ sym (sub-zero _)))
 
 -- ---- block i
 
 module _ (c : tie.In-loop Inv-loop μ-loop) where
   abbrev start : tie.Else1 Inv-loop μ-loop
-  start = past1 (past2 (past3 (c .before .before .before)))
+  start = past1 (past2 (past3 (c .before .before .before .before)))
 
   abbrev ring : Ring (head start .nb) (head start .p) (head start .p % head start .nb)
   ring = fit start .ring
@@ -124,8 +125,15 @@ says5 c = let t = at5 (c .before) in rule5 _ _ (ring (turn t)) _ (inside (turn t
 says6 : (c : tie.After-rule6 Inv-loop μ-loop) → holds6 (line (start (turn (at6 (c .before))))) (i (turn (at6 (c .before)))) ≡ c .rule6 .result
 says6 c = let t = at6 (c .before) in rule6 _ _ (ring (turn t)) _ (inside (turn t)) _ (t .current-turn .ensures) _ (c .rule6 .ensures)
 
+-- as many turns are held as there are desks that hold in it
+counted : (c : tie.After-holders Inv-loop μ-loop) → let t = at7 (c .before) in c .holders .result ≡ total (λ x. heldIn (t .current-turn .result) (deskOf x)) (head (start (turn t)) .desks)
+counted c =
+    let t = at7 (c .before) in let made = turn t .before .before in let b = past2 (past3 (made .before .before)) in let h = head (start (turn t)) in
+    let few = turn-few _ _ _ _ _ _ (b .before .rule1 .ensures) (not-false _ (b .if2 .left)) (ring (turn t) .few) (t .current-turn .ensures) in
+    c .holders .ensures ∙ ap (λ (l : List ℕ). total (isTurn (t .current-turn .result)) l) (made .held-turns .ensures) ∙ held-by-turn _ (h .desks) few
+
 says7 : (c : tie.After-rule7 Inv-loop μ-loop) → holds7 (line (start (turn (at7 (c .before .before))))) (i (turn (at7 (c .before .before)))) ≡ c .rule7 .result
-says7 c = let t = at7 (c .before .before) in rule7 _ _ (ring (turn t)) _ (inside (turn t)) _ (t .current-turn .ensures) _ _ (c .before .holders .ensures) (c .rule7 .ensures)
+says7 c = let t = at7 (c .before .before) in rule7 _ _ (ring (turn t)) _ (inside (turn t)) _ (t .current-turn .ensures) _ _ (counted (c .before)) (c .rule7 .ensures)
 
 four : (c : tie.Else5 Inv-loop μ-loop) → holds4 (line (start (turn (at5 c)))) (i (turn (at5 c))) ≡ true
 four c = says4 (c .before) ∙ not-false _ (c .if5 .left)
@@ -173,9 +181,9 @@ check-spec =
     (λ c. omega (arith, c .block-of .ensures .0, fit (past1 (c .before)) .ring .few)) (λ c κs. search) returns-3
     (λ c κs. fit (past1 (past2 c)) .ring) returns-4
     -- the loop, up to rule 4, to rule 7, and round
-    loop-holds (λ c. omega (arith, inside c, ring c .few)) (λ c. omega (arith, inside c, ring c .few))
+    (λ c κs. search) loop-holds (λ c. omega (arith, inside c, ring c .few)) (λ c. omega (arith, inside c, ring c .few))
     (λ c. omega (arith, inside (c .before), ring (c .before) .few)) (λ c κs. (ring (c .before), inside (c .before)))
     (λ c κs. (ring (turn c) .few, inside (turn c), turn-block _ _ _ _ (inside (turn c)) (c .current-turn .ensures))) returns-5
     (λ c κs. search) returns-6 (λ c κs. search) returns-7
-    (λ c κs. search) (λ c κs. held-few _ _ _ (sixteen (start (turn (at7 (c .before))))) (c .holders .ensures)) returns-8
+    (λ c κs. search) (λ c κs. held-few _ _ _ (sixteen (start (turn (at7 (c .before))))) (counted c)) returns-8
     (λ c. let b = turn (at7 (c .before .before .before)) in omega (arith, inside b, ring b .few)) (λ c. omega arith) loop-again returns-9)
