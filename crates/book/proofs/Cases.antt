@@ -1,6 +1,7 @@
 -- The cases, computed. A group's proof has a place for each of its cases, in their order.
 use mathlib.Core.Path.{refl}
 use mathlib.Core.List.{List, [], _∷_, _++_}
+use native.Mathlib.Omega.{arith}
 use Rattle.book.specs.Sizes.{fits, isLabel, isOrder, currentTurn, isOwned}
 use Rattle.book.specs.Steps.{decode}
 use Rattle.book.specs.Total.{any, total}
@@ -11,6 +12,9 @@ use Rattle.book.specs.Cases.{Case, marked, nearlyRight, letPass, deskSte
 use Rattle.book.specs.Decoding.{Decoding}
 use Rattle.book.specs.WornCases.{WornCases}
 use Rattle.book.specs.BoundCases.{boundCases, BoundCases}
+use Rattle.book.specs.Order.{those, wentBy, wentRows, gotRows, gotLabels, placedLabels}
+use Rattle.book.specs.Clearing.{settling, emptying, clearing}
+use Rattle.book.specs.OrderCases.{orderCases, OrderCases}
 
 -- what a run computes with: who unfolds this unfolds all of it
 runs : Unit {0}
@@ -66,3 +70,7 @@ worn-cases = (refl, refl, refl, refl, refl, refl, refl, refl)
 pub bound-cases : BoundCases
 unfolding BoundCases boundCases runs total bound
 bound-cases = (refl, refl, (refl, refl, (refl, refl, tt)))
+
+pub order-cases : OrderCases
+unfolding OrderCases orderCases runs total those wentBy wentRows gotRows gotLabels placedLabels settling emptying clearing
+order-cases = ((refl, refl, (refl, refl, tt)), λ h. absurd (let g = h .1 .0 in omega arith), λ h. absurd (let g = h .1 .0 in omega arith))

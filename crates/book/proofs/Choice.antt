@@ -57,6 +57,9 @@ pub not→false : (b : Bool) → T (not b) → b ≡ false
 not→false true t = absurd t
 not→false false t = refl
 
+pub true-not-false : true ≡ false → ⊥
+true-not-false e = subst T e tt
+
 -- two tests are equal if each follows from the other
 pub same-test : (a b : Bool) → (T a → T b) → (T b → T a) → a ≡ b
 same-test true true f g = refl

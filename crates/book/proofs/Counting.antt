@@ -56,7 +56,7 @@ gone-waiting [] = refl
 gone-waiting (r ∷ rs) =
     let h = gone-waiting rs in cases (r .gone) (λ t. rw (T→true (r .gone) t) (omega arith)) (λ t. rw (not→false (r .gone) t) (omega arith))
 
-only : ℕ → Tally
+unfoldable pub only : ℕ → Tally
 only n = record {
   weight = λ r. if r ≡ᵇ n then 1 else 0;
   gone = λ rs. goneBy (rowAt rs n);
@@ -264,7 +264,7 @@ module _ (z : Size) where
 
     -- ---- every step, every run
 
-    does-kept : (s : Deed) → Owes 0 b (does z b s)
+    pub does-kept : (s : Deed) → Owes 0 b (does z b s)
     unfolding does getStep
     does-kept (put a) = put-kept a
     does-kept get = get-kept (readTurn z (putTurn z (b .rows) - b .k) (b .rows) (b .k))
@@ -275,7 +275,7 @@ module _ (z : Size) where
   abbrev pub Run : Book → List Step → Type 0
   Run b ss = let l = answers z b ss in Kept b 0 (after z b ss) (placed l) (got l + taken l) (handed l) (leaves z b ss)
 
-  run-kept : (b : Book) (ss : List Step) → Fair (b .rows) (b .desks) → Run b ss
+  pub run-kept : (b : Book) (ss : List Step) → Fair (b .rows) (b .desks) → Run b ss
   unfolding answers after leaves step total handed
   run-kept b [] f = stays b (b .k) 0 f
   run-kept b (s ∷ ss) f =
@@ -295,9 +295,12 @@ module _ (z : Size) where
 
   -- ---- from opening
 
-  pub opened-kept : (ss : List Step) → Run (opened z) ss
+  pub opened-fair : Fair ((opened z) .rows) ((opened z) .desks)
   unfolding opened
-  opened-kept ss = run-kept (opened z) ss (record { many = length-replicate (z .t) idle; within = λ d. omega (arith, ap reach (replicate-at (z .t) d idle)) })
+  opened-fair = record { many = length-replicate (z .t) idle; within = λ d. omega (arith, ap reach (replicate-at (z .t) d idle)) }
+
+  pub opened-kept : (ss : List Step) → Run (opened z) ss
+  opened-kept ss = run-kept (opened z) ss opened-fair
 
 pub counting : Counting
 unfolding Counting opened every total

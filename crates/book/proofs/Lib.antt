@@ -5,4 +5,13 @@ pub mod Turns
 pub mod Bound
 pub mod Counting
 pub mod Handed
+pub mod DeskKinds
+pub mod Fronts
+pub mod Rising
+pub mod Order
+pub mod Labels
+pub mod FirstOut
+pub mod Settling
+pub mod Emptying
+pub mod Clearing
 pub mod Cases

@@ -5,7 +5,7 @@ use mathlib.Core.List.{List, [], _∷_, _++_}
 use Prim.Native.Nat.{ℕ, zero, suc, _+_, _≤_, _<_}
 use native.Mathlib.Nat.{not-suc-le-zero, le-of-suc-le-suc}
 use native.Mathlib.Omega.{arith}
-use lib.Dec.{ltb}
+use lib.Dec.{T, ltb}
 use lib.ListN.{length, getD, set, replicate}
 use Rattle.book.specs.Choice.{if_then_else_}
 use Rattle.book.specs.Total.{total, any}
@@ -71,6 +71,13 @@ module _ {A : Type 0} where
       cases (f x)
       (λ s. rw (T→true (f x) s) (sym (lt→true 0 (1 + n) (omega arith))))
       (λ s. rw (not→false (f x) s) (any-total f xs ∙ ap (ltb 0) (let e : n ≡ 0 + n = omega arith in e)))
+
+  -- and then it stands somewhere
+  pub any-at : (f : A → Bool) (l : List A) (d : A) → T (any f l) → (i : ℕ) × T (f (getD l i d))
+  unfolding any
+  any-at f [] d h = absurd h
+  any-at f (x ∷ xs) d h =
+      cases {C = (i : ℕ) × T (f (getD (x ∷ xs) i d))} (f x) (λ t. (0, t)) (λ t. let r = any-at f xs d (rw (not→false (f x) t) at h) in (suc (r .0), r .1))
 
   pub replicate-at : (n i : ℕ) (x : A) → getD (replicate n x) i x ≡ x
   replicate-at zero i x = refl

@@ -2,7 +2,7 @@
 use mathlib.Core.Path.{_≡_, sym, ap, _∙_}
 use mathlib.Core.Logic.{_≢_}
 use Prim.Native.Nat.{ℕ, zero, suc, _+_, _-_, _*_, _/_, _%_, _≤_, _<_, zero-le}
-use native.Mathlib.Nat.{div-zero, le-div-iff-mul-le, div-mul-le-self, le-trans, div-add-mod', mod-lt, mul-le-mul-right, mod-eq-of-lt, add-mul-mod-self-right}
+use native.Mathlib.Nat.{div-zero, le-div-iff-mul-le, div-lt-iff-lt-mul, lt-div-mul-add, div-mul-le-self, le-trans, div-add-mod', mod-lt, mul-le-mul-right, mod-eq-of-lt, add-mul-mod-self-right}
 use native.Mathlib.Omega.{arith}
 use lib.Dec.{ltb, eqb, ltb→lt, lt→ltb, nltb→le, eqb→eq}
 use lib.Arith.{digits-div, digits-mod}
@@ -13,6 +13,12 @@ use Rattle.book.proofs.Choice.{cases, same-test, eq→eqb}
 pub div-mono : {a b : ℕ} (k : ℕ) → a ≤ b → a / k ≤ b / k
 div-mono {a} {b} zero h = rw (div-zero a) zero-le
 div-mono {a} {b} (suc k) h = (le-div-iff-mul-le {k = suc k} {x = a / suc k} {y = b} (omega arith)) .1 (le-trans (div-mul-le-self a (suc k)) h)
+
+pub div-next : (k n : ℕ) → (n + 1) / k ≤ n / k + 1
+div-next zero n = rw (div-zero (n + 1)) zero-le
+div-next (suc k) n =
+    let low = (div-lt-iff-lt-mul {k = suc k} {x = n + 1} {y = n / suc k + 1 + 1} (omega arith)) .1 (omega (arith, lt-div-mul-add {a = n} {b = suc k} (omega arith))) in
+    omega arith
 
 -- two turns in one block are at least NB apart
 pub mod-gap : (n a b : ℕ) → a < b → a % n ≡ b % n → a + n ≤ b

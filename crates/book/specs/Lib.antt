@@ -6,7 +6,10 @@ pub mod Verdicts
 pub mod Book
 pub mod Counts
 pub mod Demands
-pub mod Cases
 pub mod Decoding
+pub mod Order
+pub mod Cases
+pub mod Clearing
 pub mod WornCases
 pub mod BoundCases
+pub mod OrderCases

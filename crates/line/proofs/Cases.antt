@@ -12,6 +12,9 @@ use Rattle.line.specs.Calls.{opens, step, orders, answers, after}
 use Rattle.line.specs.Survey.{seenFrom, maskOf, lowestFrom, views, surveys, survey}
 use Rattle.line.specs.Damaged.{SoundCases, UnfitCases, Rule1Cases, Rule2Cases, Rule3Cases, PairCases, Rule4Cases, Rule5Cases, Rule6Cases, Rule7Cases, SeveralCases}
 use Rattle.line.specs.Cases.{ListingCases, RunCases, WornCases, WayCases, StepCases, RefusedCases, OrderCases, SurveyCases, OpeningCases, IdleCases}
+use Rattle.book.specs.Clearing.{settling}
+use Rattle.line.specs.Clearing.{emptying, clearing}
+use Rattle.line.specs.ClearingCases.{ClearingCases}
 
 -- ---- what is computed with: to unfold one of these is to unfold all that it names
 
@@ -126,3 +129,7 @@ opening-cases = refl
 pub idle-cases : IdleCases
 unfolding IdleCases
 idle-cases = refl
+
+pub clearing-cases : ClearingCases
+unfolding calls settling emptying clearing ClearingCases
+clearing-cases = refl

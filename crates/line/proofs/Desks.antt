@@ -98,7 +98,7 @@ module _ (l : Line) (b : Book) (g : Agrees (sizeOf (l .head)) l b) where
 
   -- ---- BUSY
 
-  held-same : (q : ℕ) (x : Desk Spot) → DeskRule l x → (if B.heldIn z q (asRow z x) then 1 else 0) ≡ heldIn q x
+  pub held-same : (q : ℕ) (x : Desk Spot) → DeskRule l x → (if B.heldIn z q (asRow z x) then 1 else 0) ≡ heldIn q x
   unfolding B.heldIn
   held-same q idle r = refl
   held-same q (looked s) r = refl

@@ -21,5 +21,7 @@ pub mod FollowsClaim
 pub mod FollowsDesks
 pub mod Follows
 pub mod Runs
+pub mod FirstOut
+pub mod Clearing
 pub mod Survey
 pub mod Cases

@@ -6,6 +6,9 @@ pub mod Survey
 pub mod Refusals
 pub mod Agrees
 pub mod Demands
+pub mod FirstOut
+pub mod Clearing
 pub mod Samples
 pub mod Damaged
 pub mod Cases
+pub mod ClearingCases

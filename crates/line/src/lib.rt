@@ -3,6 +3,8 @@
 // The records are numbers only, so that a portal lends its own memory. specs/Line.antt has the
 // steps, specs/Rules.antt the rules of a sound line in the paper's words, specs/Check.antt the check,
 // specs/Calls.antt what a caller gets. specs/Demands.antt states demands 1 to 3; proofs/ proves them.
+// Beyond the demands, specs/FirstOut.antt says in which order labels come out, and specs/Clearing.antt
+// that nothing is ever stuck.
 
 // A desk: stage 0 is idle, 1 looked, 2 claimed, 3 fetched. An idle desk's turn and place are not read.
 #[repr(C)]
