@@ -22,10 +22,13 @@ use Rattle.line.proofs.Check.{Fit, Says, checked}
 use Rattle.line.proofs.Cells.{blocks-of}
 use Rattle.line.proofs.Guards.{step-does, orders-does}
 use Rattle.line.specs.Rules.{Sound}
-use Rattle.engine.specs.Lent.{lineOf, Given, gave}
-use Rattle.engine.specs.Promises.{Checks, Ready}
-use Rattle.engine.proofs.Entries.{lent-checked}
-use Rattle.engine.proofs.Lent.{lent-length, refused}
+use Rattle.rules.specs.Lent.{lineOf}
+use Rattle.rules.specs.Promises.{Checks}
+use Rattle.rules.proofs.Lent.{lent-length}
+use Rattle.rules.proofs.Entries.{lent-checked}
+use Rattle.engine.specs.Lent.{Given, gave}
+use Rattle.engine.specs.Promises.{Ready}
+use Rattle.engine.proofs.Lent.{refused}
 use Rattle.engine.proofs.Takes.{taken-refused}
 
 module _ (h : Head) (t : List Block) (n : ℕ) (es : List ℕ) where

@@ -16,7 +16,8 @@ use Rattle.line.specs.declared.Block.{Block}
 use Rattle.line.specs.declared.Head.{Head}
 use Rattle.line.specs.Line.{Line, Spot, unused, sizeOf, getAt, recordOf, entryOf, labelAt, reach, readAt, getStep}
 use Rattle.line.proofs.Cells.{cell}
-use Rattle.engine.specs.Lent.{lineOf, gave}
+use Rattle.rules.specs.Lent.{lineOf}
+use Rattle.engine.specs.Lent.{gave}
 use Rattle.engine.specs.Promises.{Ready}
 use Rattle.engine.specs.Owning.{movesOn}
 use Rattle.engine.proofs.Lent.{gave-lent, refused}

@@ -14,10 +14,7 @@ use Rattle.book.specs.Total.{total}
 use Rattle.line.specs.declared.Surveyed.the-variants.{Survey}
 use Rattle.line.specs.declared.Views.{Views}
 use Rattle.line.specs.Survey.{bit, maskOf, lowestFrom, views}
-
-pub bit-le : (x : Bool) → bit x ≤ 1
-bit-le true = omega arith
-bit-le false = omega arith
+use Rattle.line.proofs.Survey.{bit-le}
 
 low-bit : (x : Bool) (m : ℕ) → (bit x + 2 * m) % 2 ≡ bit x
 low-bit x m = omega (arith, bit-le x)

@@ -26,12 +26,15 @@ use Rattle.line.specs.Line.{entryOf, labelAt, winnable, lookStep, claimStep, fe
 use Rattle.line.specs.Rules.{DeskRule}
 use Rattle.line.proofs.Current.{current→window}
 use Rattle.line.proofs.Cells.{cell}
-use Rattle.engine.specs.Lent.{lentTable, putBack, lineOf, Given, gave}
+use Rattle.rules.specs.Lent.{lentTable, lineOf}
+use Rattle.rules.specs.Checking.{spotOf}
+use Rattle.rules.proofs.Lent.{lent-at}
+use Rattle.engine.specs.Lent.{putBack, Given, gave}
 use Rattle.engine.specs.Promises.{Ready}
 use Rattle.engine.specs.Owning.{sized, Stands}
 use Rattle.engine.specs.declared.desks.Moved.{Moved}
-use Rattle.engine.specs.Stepping.{mayStep, blockRead, waits, mayLook, wins, leaves, spotOf, lookOf, claimOf, fetchOf, finishOf, movedBy}
-use Rattle.engine.proofs.Lent.{lent-at, put-set, put-lent, refused}
+use Rattle.engine.specs.Stepping.{mayStep, blockRead, waits, mayLook, wins, leaves, lookOf, claimOf, fetchOf, finishOf, movedBy}
+use Rattle.engine.proofs.Lent.{put-set, put-lent, refused}
 use Rattle.engine.proofs.Ready.{sizes, blocks, record-at, stands}
 use Rattle.engine.proofs.Takes.{taken-refused, stage-of, carries, fetch-claimed}
 

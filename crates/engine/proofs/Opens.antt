@@ -15,11 +15,12 @@ use Rattle.line.specs.declared.Head.{Head}
 use Rattle.line.specs.declared.Opening.the-variants.{Open, Unfit}
 use Rattle.line.specs.Line.{unused, opened}
 use Rattle.line.specs.Calls.{opens}
-use Rattle.engine.specs.Lent.{lineOf, putBack}
-use Rattle.engine.specs.Checking.{fitting}
+use Rattle.rules.specs.Lent.{lineOf}
+use Rattle.rules.specs.Checking.{fitting}
+use Rattle.rules.proofs.Fits.{fit-by, sized, sized-few}
+use Rattle.engine.specs.Lent.{putBack}
 use Rattle.engine.specs.Opens.{began}
 use Rattle.engine.proofs.Lent.{put-lent}
-use Rattle.engine.proofs.Fits.{fit-by, sized, sized-few}
 
 -- ---- a list whose first n are v, and the others as they were
 

@@ -17,8 +17,9 @@ use Rattle.line.specs.declared.Block.{Block}
 use Rattle.line.specs.declared.Head.{Head}
 use Rattle.line.specs.Line.{Outcome, sizeOf, putAt, putMany, orderStep}
 use Rattle.line.proofs.Cells.{entries-of}
+use Rattle.rules.specs.Lent.{lineOf}
 use Rattle.engine.specs.declared.owner.Room.{Room}
-use Rattle.engine.specs.Lent.{lineOf, gave}
+use Rattle.engine.specs.Lent.{gave}
 use Rattle.engine.specs.Promises.{Ready}
 use Rattle.engine.proofs.Lent.{gave-lent, refused}
 use Rattle.engine.proofs.Ready.{blocks}

@@ -20,8 +20,9 @@ use Rattle.line.specs.declared.Head.{Head}
 use Rattle.line.specs.Line.{Line, says, unused, sizeOf, recordOf, entryOf, putAt, isBusy, mayPut, labelled, stored, putStep, putMany}
 use Rattle.line.specs.Agrees.{Lawful}
 use Rattle.line.proofs.Sound.{stored-lawful}
+use Rattle.rules.specs.Lent.{lineOf}
 use Rattle.engine.specs.declared.owner.Room.{Room}
-use Rattle.engine.specs.Lent.{lineOf, gave}
+use Rattle.engine.specs.Lent.{gave}
 use Rattle.engine.specs.Promises.{Ready}
 use Rattle.engine.specs.Owning.{sized, mayPlace, roomOf, Stands}
 use Rattle.engine.proofs.Lent.{lent-set, gave-lent, refused}

@@ -11,10 +11,10 @@ use Rattle.line.specs.declared.Head.{Head}
 use Rattle.line.specs.Line.{Line, unused, sizeOf, recordOf, entryOf}
 use Rattle.line.proofs.Current.{entry-lt}
 use Rattle.line.proofs.Cells.{Valid, valid-of, entries-of}
-use Rattle.engine.specs.Lent.{lineOf}
+use Rattle.rules.specs.Lent.{lineOf}
+use Rattle.rules.proofs.Lent.{lent-at}
 use Rattle.engine.specs.Promises.{Ready}
 use Rattle.engine.specs.Owning.{Stands}
-use Rattle.engine.proofs.Lent.{lent-at}
 
 -- the block after that of turn u is that of the next turn
 pub next-block : (nb u i j : ℕ) → i ≡ u % nb → j ≡ (i + 1) % nb → j ≡ (u + 1) % nb

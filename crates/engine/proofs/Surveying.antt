@@ -15,10 +15,10 @@ use Rattle.line.specs.Line.{Line, sizeOf, unused}
 use Rattle.line.specs.Check.{fit, check}
 use Rattle.line.specs.Survey.{seenFrom, views, surveys, survey}
 use Rattle.line.proofs.Check.{Says, checked}
-use Rattle.engine.specs.Lent.{lentTable, lineOf}
+use Rattle.rules.specs.Lent.{lentTable, lineOf}
+use Rattle.rules.proofs.Lent.{lent-at}
+use Rattle.rules.proofs.Fits.{Sized, sized, fit-by}
 use Rattle.engine.specs.Stepping.{mayLook}
-use Rattle.engine.proofs.Lent.{lent-at}
-use Rattle.engine.proofs.Fits.{Sized, sized, fit-by}
 use Rattle.engine.proofs.Mask.{told, told-views, bitsFrom, bits-length, maskDown}
 use Rattle.engine.proofs.Looks.{seen, sees, seen-is}
 

@@ -13,7 +13,8 @@ use Rattle.book.specs.Steps.{Desk, claimed, carried}
 use Rattle.book.specs.Verdicts.{takes, refuses, grid, stage, atStage}
 use Rattle.line.specs.declared.Desk.{Desk as LentDesk}
 use Rattle.line.specs.Line.{Spot, nowhere, deskOf}
-use Rattle.engine.specs.Stepping.{numberOf, spotOf}
+use Rattle.rules.specs.Checking.{spotOf}
+use Rattle.engine.specs.Stepping.{numberOf}
 
 -- what holds of each number below four
 four : (P : ℕ → Type 0) → P 0 → P 1 → P 2 → P 3 → (n : ℕ) → n < 4 → P n

@@ -1,4 +1,4 @@
--- Any two outcomes that the promise of a step allows are equal, and so for an order, opening, the check and the survey.
+-- Any two outcomes that the promise of a step allows are equal, and so for an order, opening and the survey.
 use mathlib.Core.Path.{_≡_, sym, ap, _∙_}
 use mathlib.Core.List.{List}
 use Prim.Native.Nat.{ℕ}
@@ -6,14 +6,13 @@ use Rattle.words.specs.declared.Answer.{Answer}
 use Rattle.book.specs.Sizes.{Size}
 use Rattle.book.specs.Steps.{Step}
 use Rattle.line.specs.declared.Block.{Block}
-use Rattle.line.specs.declared.Checked.{Checked}
 use Rattle.line.specs.declared.Head.{Head}
 use Rattle.line.specs.declared.Opening.{Opening}
 use Rattle.line.specs.declared.Views.{Views}
 use Rattle.engine.specs.declared.Went.{Went}
 use Rattle.engine.specs.declared.opening.Opened.{Opened}
 use Rattle.engine.specs.Lent.{Given, given}
-use Rattle.engine.specs.Promises.{Checks, Surveys, Steps, Orders}
+use Rattle.engine.specs.Promises.{Surveys, Steps, Orders}
 use Rattle.engine.specs.Opens.{Opens}
 
 given-unique : (o : Given Answer) (r s : Went) (fs gs : List ℕ) → given r fs ≡ o → given s gs ≡ o → (r ≡ s) × (fs ≡ gs)
@@ -30,9 +29,6 @@ module _ (h : Head) (t : List Block) (n : ℕ) where
   pub opens-unique : (es : List ℕ) (z : Size) (r s : Opened) (fs gs : List ℕ) → Opens h t n es z r fs → Opens h t n es z s gs → (r ≡ s) × (fs ≡ gs)
   opens-unique es z r s fs gs p q =
       (ap (λ (g : Given Opening). record { answer = g .answer; head = g .head; table = g .table }) (p ∙ sym q), ap (λ (g : Given Opening). g .entries) (p ∙ sym q))
-
-  pub checks-unique : (m : ℕ) (r s : Checked) → Checks h t n m r → Checks h t n m s → r ≡ s
-  checks-unique m r s p q = p ∙ sym q
 
   pub surveys-unique : (m : ℕ) (r s : Views) → Surveys h t n m r → Surveys h t n m s → r ≡ s
   surveys-unique m r s p q = p ∙ sym q

@@ -10,10 +10,10 @@ use borrow.Author.Tests.{le-leb, lt-leb, eqb-true}
 use Rattle.book.specs.Sizes.{Size, blockOf, currentTurn, isOwned}
 use Rattle.line.specs.declared.Block.{Block}
 use Rattle.line.specs.declared.Desk.{Desk as LentDesk}
-use Rattle.engine.specs.Checking.{isRecent}
+use Rattle.rules.specs.Checking.{isRecent}
+use Rattle.rules.proofs.Ring.{current-recent, recent→le}
 use Rattle.engine.specs.Owning.{sized}
 use Rattle.engine.specs.Stepping.{wins}
-use Rattle.engine.proofs.Ring.{current-recent, recent→le}
 
 module _ (nb p k : ℕ) (c : Block) (x : LentDesk) (pos : 1 ≤ nb) where
   abbrev z : Size

@@ -1,20 +1,13 @@
--- The line that a call is lent, and what it gives back: the head, the table of 64 records and the entries.
+-- What a call gives back: the answer, the head, the table of 64 records and the entries.
 use mathlib.Core.List.{List, _++_}
 use Prim.Native.Nat.{ℕ}
-use lib.ListN.{take, drop, replicate}
+use lib.ListN.{drop}
 use Rattle.words.specs.declared.Answer.{Answer}
 use Rattle.book.specs.Choice.{if_then_else_, _≤ᵇ_}
 use Rattle.line.specs.declared.Block.{Block}
 use Rattle.line.specs.declared.Head.{Head}
-use Rattle.line.specs.Line.{Line, Outcome, unused}
+use Rattle.line.specs.Line.{Outcome}
 use Rattle.engine.specs.declared.Went.{Went}
-
--- The table holds the lent records first. A lent count above 64 fits no line, whatever stands in it.
-unfoldable pub lentTable : List Block → ℕ → List Block
-lentTable t n = if n ≤ᵇ 64 then take n t else replicate n unused
-
-abbrev pub lineOf : Head → List Block → ℕ → List ℕ → Line
-lineOf h t n es = record { head = h; table = lentTable t n; entries = es }
 
 -- the lent records put back in front of the others
 unfoldable pub putBack : List Block → ℕ → List Block → List Block

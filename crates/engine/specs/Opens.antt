@@ -7,8 +7,9 @@ use Rattle.line.specs.declared.Block.{Block}
 use Rattle.line.specs.declared.Head.{Head}
 use Rattle.line.specs.declared.Opening.{Opening}
 use Rattle.line.specs.Calls.{Opened as Outcome, opens}
+use Rattle.rules.specs.Lent.{lineOf}
 use Rattle.engine.specs.declared.opening.Opened.{Opened}
-use Rattle.engine.specs.Lent.{lineOf, putBack, Given}
+use Rattle.engine.specs.Lent.{putBack, Given}
 
 -- what opening gives back, and what it is to give: the lent records stand in front of the others
 abbrev pub begun : Opened → List ℕ → Given Opening

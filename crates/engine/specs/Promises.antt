@@ -7,20 +7,16 @@ use lib.ListN.{replicate}
 use Rattle.book.specs.Steps.{Step}
 use Rattle.line.specs.declared.Block.{Block}
 use Rattle.line.specs.declared.Head.{Head}
-use Rattle.line.specs.declared.Checked.{Checked}
 use Rattle.line.specs.declared.Views.{Views}
 use Rattle.line.specs.Line.{sizeOf}
-use Rattle.line.specs.Check.{check}
 use Rattle.line.specs.Calls.{step, orders}
 use Rattle.line.specs.Survey.{survey}
 use Rattle.line.specs.Agrees.{Lawful}
+use Rattle.rules.specs.Lent.{lineOf}
 use Rattle.engine.specs.declared.Went.{Went}
-use Rattle.engine.specs.Lent.{lineOf, given, gave}
+use Rattle.engine.specs.Lent.{given, gave}
 
--- the check and the survey read no entry: any m entries
-abbrev pub Checks : Head → List Block → ℕ → ℕ → Checked → Type 0
-Checks h t n m r = r ≡ check (lineOf h t n (replicate m 0))
-
+-- the survey reads no entry: any m entries
 abbrev pub Surveys : Head → List Block → ℕ → ℕ → Views → Type 0
 Surveys h t n m r = r ≡ survey (lineOf h t n (replicate m 0))
 

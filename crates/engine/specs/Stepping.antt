@@ -14,7 +14,8 @@ use Rattle.book.specs.Steps.{DeskStep, look, claim, fetch, finish, Deed, put, g
 use Rattle.book.specs.Verdicts.{Verdict, takes, refuses, judge, column, atStage, noBlock, lookable}
 use Rattle.line.specs.declared.Block.{Block}
 use Rattle.line.specs.declared.Desk.{Desk as LentDesk}
-use Rattle.line.specs.Line.{Spot, lent, oneClaimed, oneFinished}
+use Rattle.line.specs.Line.{lent, oneClaimed, oneFinished}
+use Rattle.rules.specs.Checking.{spotOf}
 use Rattle.engine.specs.Owning.{sized}
 use Rattle.engine.specs.declared.desks.DeskStep.{DeskStep as AskedStep}
 use Rattle.engine.specs.declared.desks.DeskStep.the-variants.{Look, Claim, Fetch, Finish}
@@ -73,9 +74,6 @@ wins nb p k c x =
 -- what it leaves: the answer, the desk and the record
 abbrev pub leaves : Answer → LentDesk → Block → Moved
 leaves a x c = record { answer = a; desk = x; block = c }
-
-abbrev pub spotOf : LentDesk → Spot
-spotOf x = record { turn = x .turn; place = x .place }
 
 unfoldable pub lookOf : ℕ → ℕ → ℕ → ℕ → Block → LentDesk → Moved
 lookOf nb p k i c x =

@@ -1,15 +1,14 @@
 // The engine: the line by value. A call takes the head, the table of 64 records with the number n of
 // them that were lent, and the entries; it answers, and gives back head and table. Nothing is assumed
-// of the numbers: the check comes first. Each promise is one equation with the definitions of `line`.
+// of the numbers: the check of `rules` comes first. Each promise is one equation with the definitions of
+// `line`.
 //
-// `opening::open` opens a line, `check::check` checks one, `survey::survey` surveys one, and
-// `step::step` and `step::order` are what the owner and the desks call.
-pub mod check;
+// `opening::open` opens a line, `survey::survey` surveys one, and `step::step` and `step::order` are what
+// the owner and the desks call.
 mod desks;
 mod grid;
 pub mod opening;
 mod owner;
-mod rules;
 pub mod step;
 pub mod survey;
 

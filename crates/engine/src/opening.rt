@@ -1,9 +1,9 @@
 // Opening a line in the records and entries that are lent.
-use super::rules::fits;
 use line::Block;
 use line::Desk;
 use line::Head;
 use line::Opening;
+use rules::each::fits;
 ghost use mathlib.Core.Path.{_≡_};
 ghost use lib.ListN.{length, replicate};
 ghost use Rattle.line.specs.Line.{opened};

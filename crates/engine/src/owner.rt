@@ -13,7 +13,8 @@ ghost use lib.ListN.{getD, set};
 ghost use Rattle.book.specs.Choice.{_<ᵇ_, _≡ᵇ_};
 ghost use Rattle.book.specs.Sizes.{isLabel, isOrder};
 ghost use Rattle.line.specs.Line.{sizeOf, putStep, orderStep, getStep};
-ghost use Rattle.engine.specs.Lent.{lineOf, given, gave};
+ghost use Rattle.rules.specs.Lent.{lineOf};
+ghost use Rattle.engine.specs.Lent.{given, gave};
 ghost use Rattle.engine.specs.Promises.{Ready};
 ghost use Rattle.engine.specs.Owning.{verdictOf, mayStart, mayPlace, roomOf, movesOn, Stands};
 

@@ -1,6 +1,5 @@
 // A step and an order, as they are called: the check first, then what the code asks for.
 use crate::Went;
-use crate::check::check;
 use crate::desks::DeskStep;
 use crate::desks::desk_step;
 use crate::owner;
@@ -8,6 +7,7 @@ use crate::owner::Verdict;
 use line::Block;
 use line::Checked;
 use line::Head;
+use rules::check;
 use words::Answer;
 use words::Refusal;
 ghost use mathlib.Core.Path.{_≡_};

@@ -1,5 +1,4 @@
 // The survey: at which blocks an idle desk's look would be SEEN, as a mask, their number, and the lowest of them.
-use super::check::check;
 use super::desks::may_look;
 use super::owner::Verdict;
 use line::Block;
@@ -7,6 +6,7 @@ use line::Checked;
 use line::Head;
 use line::Surveyed;
 use line::Views;
+use rules::check;
 ghost use mathlib.Core.Path.{_≡_};
 ghost use Rattle.book.specs.Verdicts.{judge};
 ghost use Rattle.line.specs.Survey.{none};

@@ -30,7 +30,7 @@ use Rattle.line.proofs.Guards.{step-does}
 
 -- ---- a mask with one bit in front
 
-bit-le : (x : Bool) → bit x ≤ 1
+pub bit-le : (x : Bool) → bit x ≤ 1
 bit-le true = omega arith
 bit-le false = omega arith
 

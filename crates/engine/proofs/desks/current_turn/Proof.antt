@@ -5,7 +5,7 @@ use native.Mathlib.Nat.{mod-le}
 use native.Mathlib.Omega.{arith}
 use borrow.Author.Needs.{needs}
 use Rattle.book.specs.Sizes.{currentTurn}
-use Rattle.engine.proofs.Ring.{unused-turn}
+use Rattle.rules.proofs.Ring.{unused-turn}
 use Rattle.engine.proofs.desks.current_turn.Statement.{statement}
 use Rattle.engine.proofs.desks.current_turn.Tie as tie
 

@@ -6,7 +6,7 @@ use borrow.Author.Needs.{needs}
 use lib.ListN.{length, set}
 use Rattle.line.specs.declared.Block.{Block}
 use Rattle.line.specs.Line.{unused}
-use Rattle.engine.proofs.Fits.{sized-few}
+use Rattle.rules.proofs.Fits.{sized-few}
 use Rattle.engine.proofs.Opens.{filled, fill-more, open-unfit, open-fits}
 use Rattle.engine.proofs.opening.open.Statement.{statement}
 use Rattle.engine.proofs.opening.open.Tie as tie

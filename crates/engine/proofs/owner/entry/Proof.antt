@@ -2,7 +2,7 @@
 use Prim.Native.Nat.{_*_, _≤_}
 use native.Mathlib.Omega.{arith}
 use borrow.Author.Needs.{needs}
-use Rattle.engine.proofs.Records.{product}
+use Rattle.rules.proofs.Records.{product}
 use Rattle.engine.proofs.owner.entry.Statement.{statement}
 use Rattle.engine.proofs.owner.entry.Tie as tie
 

@@ -2,9 +2,9 @@
 use mathlib.Core.Path.{_≡_, ap}
 use borrow.Author.Needs.{needs}
 use Rattle.book.specs.Verdicts.{takes}
+use Rattle.rules.proofs.Walks.{length-of}
 use Rattle.engine.specs.Lent.{given}
 use Rattle.engine.specs.Owning.{verdictOf}
-use Rattle.engine.proofs.Walks.{length-of}
 use Rattle.engine.proofs.Called.{Goes, goes, stops}
 use Rattle.engine.proofs.step.order.Statement.{statement}
 use Rattle.engine.proofs.step.order.Tie as tie

@@ -12,11 +12,12 @@ use Rattle.line.specs.declared.Block.{Block}
 use Rattle.line.specs.declared.Head.{Head}
 use Rattle.line.specs.Line.{sizeOf, does}
 use Rattle.line.specs.Calls.{step}
-use Rattle.engine.specs.Lent.{lineOf, Given, given, gave}
+use Rattle.rules.specs.Lent.{lineOf}
+use Rattle.rules.proofs.Walks.{length-of}
+use Rattle.engine.specs.Lent.{Given, given, gave}
 use Rattle.engine.specs.Owning.{verdictOf}
 use Rattle.engine.specs.Stepping.{deedOf}
 use Rattle.engine.specs.declared.step.Deed.{Deed as Asked}
-use Rattle.engine.proofs.Walks.{length-of}
 use Rattle.engine.proofs.Lent.{refused}
 use Rattle.engine.proofs.Called.{Goes, Stops, goes, stops}
 use Rattle.engine.proofs.step.step.Statement.{statement}

@@ -5,9 +5,10 @@ use borrow.Author.Needs.{needs}
 use lib.ListN.{length}
 use Rattle.book.specs.Verdicts.{Verdict}
 use Rattle.line.specs.Survey.{bit, surveys}
+use Rattle.line.proofs.Survey.{bit-le}
 use Rattle.engine.specs.Owning.{verdictOf}
 use Rattle.engine.proofs.Looks.{seen, seen-bit}
-use Rattle.engine.proofs.Mask.{bit-le, maskDown, mask-none, mask-more, mask-room, told}
+use Rattle.engine.proofs.Mask.{maskDown, mask-none, mask-more, mask-room, told}
 use Rattle.engine.proofs.Surveying.{bitAt, survey-by, sound-sized, survey-sound}
 use Rattle.engine.proofs.survey.survey.Statement.{statement}
 use Rattle.engine.proofs.survey.survey.Tie as tie

@@ -1,0 +1,10 @@
+pub mod Lent
+pub mod Fits
+pub mod Entries
+pub mod First
+pub mod Plain
+pub mod Records
+pub mod Ring
+pub mod Stages
+pub mod Walks
+pub mod Unique
