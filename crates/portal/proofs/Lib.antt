@@ -1,0 +1,14 @@
+pub mod Calling
+pub mod Cases
+pub mod Core
+pub mod Demands
+pub mod Lending
+pub mod Lengths
+pub mod Loading
+pub mod Outcomes
+pub mod Reading
+pub mod Results
+pub mod Rows
+pub mod Storing
+pub mod Unique
+pub mod Unread

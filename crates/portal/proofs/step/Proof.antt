@@ -1,0 +1,41 @@
+-- `portal::step` meets its contract: it is a call of `Lending.antt` with a code and two numbers, over `engine::step::step`.
+use mathlib.Core.List.{[], _∷_}
+use mir.Syntax.{w8, w32}
+use contract.Running.{tables}
+use denote.Triple.Spec.{tripleOf}
+use denote.Triple.Table.{entered, cited}
+use Rattle.book.specs.Steps.{Step}
+use Rattle.engine.specs.Promises as E
+use Rattle.engine.proofs.step.step as core
+use Rattle.engine.proofs.step.step.Symbol as core-def
+use Rattle.engine.proofs.step.step.Met as core-thm
+use Rattle.walk.proofs.Numbers.{Numbers}
+use Rattle.portal.specs.Promises.{lent, Steps}
+use Rattle.portal.proofs.Outcomes.{stepped}
+use Rattle.portal.proofs.Results.{went}
+use Rattle.portal.proofs.Calling.{Calling}
+use Rattle.portal.proofs.Lending.{lends}
+use Rattle.portal.proofs.step as f
+use Rattle.portal.proofs.step.Key.{name}
+use Rattle.portal.proofs.step.Statement.{statement}
+use Rattle.portal.proofs.step.Code as code
+
+abbrev the-step : Numbers (w8 ∷ w32 ∷ w32 ∷ []) → Step
+the-step x = record { code = x .0; a = x .1 .0; b = x .1 .1 .0 }
+
+abbrev stepping : Calling
+stepping = record {
+  widths = w8 ∷ w32 ∷ w32 ∷ [];
+  result = went;
+  core = core-def.name;
+  Says = λ h t n es x. E.Steps h t n es (the-step x);
+  Promise = λ h ys es x r g zs fs. Steps (lent h ys es) (the-step x) r (lent g zs fs);
+  keeps = λ h ys es x r fs. stepped h ys es fs (the-step x) r;
+}
+
+pub step-spec : {M : Type 1} → statement M
+unfolding code.routine
+step-spec 𝓤 H 𝓜 𝓖 𝓡 =
+    entered 𝓤 H (tripleOf 𝓤 H (𝓖 .A) f.signature (f.spec 𝓤 H (𝓖 .A) (𝓜 .mem) (𝓡 .run))) (tables 𝓤 H 𝓜 𝓡 code.env .C) (tables 𝓤 H 𝓜 𝓡 code.env .Λ) name code.function (code.unfolded 𝓤 H 𝓜 𝓡)
+    (lends stepping 𝓤 H 𝓜 𝓖 𝓡 code.env code.calls-table·load code.calls-table·store
+    (cited 𝓤 H (tripleOf 𝓤 H (𝓖 .A) core.signature (core.spec 𝓤 H (𝓖 .A) (𝓜 .mem) (𝓡 .run))) 𝓜 𝓡 code.env core-def.name core-def.routine code.calls-engine·step·step (core-thm.met 𝓤 H 𝓜 𝓖 𝓡)))

@@ -1,0 +1,75 @@
+// A table of records, lent as a slice.
+ghost use mathlib.Core.Path.{_≡_};
+ghost use mathlib.Core.Logic.{_⊎_};
+ghost use Prim.Native.Nat.{_<_, _+_, _≤_};
+ghost use lib.ListN.{length, set, getD, replicate};
+ghost use Rattle.line.specs.Line.{unused};
+ghost use Rattle.table.specs.Laid.{loaded, stored};
+use line::Block;
+
+// How many records are lent.
+pub fn count(table: &[Block]) -> usize
+    ensures { λ r. ⌜ r ≡ length (now (table .entry)) ⌝ }
+{
+    table.len()
+}
+
+// One record.
+pub fn record_at(table: &[Block], i: usize) -> Block
+    requires { ⌜ i < length (now table) ⌝ }
+    ensures { λ r. ⌜ r ≡ getD (now (table .entry)) i unused ⌝ }
+{
+    table[i]
+}
+
+// One record is replaced, and the others stay.
+pub fn replace(table: &mut [Block], i: usize, b: Block)
+    requires { ⌜ i < length (now table) ⌝ }
+    ensures { λ _. ⌜ now (table .exit) ≡ set (now (table .entry)) i b ⌝ }
+{
+    table[i] = b;
+}
+
+// The covered functions that `load` and `store` call.
+pub fn blank() -> [Block; 64]
+    ensures { λ r. ⌜ r ≡ replicate 64 unused ⌝ }
+{
+    [Block {
+        round: 0,
+        written: 0,
+        claimed: 0,
+        finished: 0,
+    }; 64]
+}
+
+pub fn at_most_64(n: usize) -> usize
+    ensures { λ r. ⌜ (r ≤ n) × (r ≤ 64) × ((r ≡ n) ⊎ (r ≡ 64)) ⌝ }
+{
+    if n < 64 { n } else { 64 }
+}
+
+// The records, copied into a table of fixed size that is blank behind them.
+pub fn load(table: &[Block]) -> [Block; 64]
+    ensures { λ r. ⌜ r ≡ loaded (now (table .entry)) ⌝ }
+{
+    let mut t = blank();
+    let n = at_most_64(table.len());
+    let mut i = 0;
+    while i < n {
+        t[i] = record_at(table, i);
+        i = i + 1;
+    }
+    t
+}
+
+// The records of the fixed table, copied back over those that are lent.
+pub fn store(table: &mut [Block], t: [Block; 64])
+    ensures { λ _. ⌜ now (table .exit) ≡ stored (now (table .entry)) t ⌝ }
+{
+    let n = at_most_64(table.len());
+    let mut i = 0;
+    while i < n {
+        replace(table, i, t[i]);
+        i = i + 1;
+    }
+}
