@@ -1,0 +1,7 @@
+use borrow.Author.Needs.{needs}
+use Rattle.cabi.proofs.Parts.{answered}
+use Rattle.cabi.proofs.replies.of_answer.Statement.{statement}
+use Rattle.cabi.proofs.replies.of_answer.Tie as tie
+
+pub of-answer-spec : {M : Type 1} → statement M
+of-answer-spec = tie.close (tie.spec (λ c κs. search needs) (λ c κs. search needs) (λ c. search answered))

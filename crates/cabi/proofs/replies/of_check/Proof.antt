@@ -1,0 +1,6 @@
+use Rattle.cabi.proofs.Parts.{checked}
+use Rattle.cabi.proofs.replies.of_check.Statement.{statement}
+use Rattle.cabi.proofs.replies.of_check.Tie as tie
+
+pub of-check-spec : {M : Type 1} → statement M
+of-check-spec = tie.close (tie.spec (λ c. search) (λ c. search) (λ c. search) (λ c. search checked) (λ c. search checked) (λ c. search checked))

@@ -1,0 +1,6 @@
+use Rattle.cabi.proofs.Parts.{opening}
+use Rattle.cabi.proofs.replies.of_opening.Statement.{statement}
+use Rattle.cabi.proofs.replies.of_opening.Tie as tie
+
+pub of-opening-spec : {M : Type 1} → statement M
+of-opening-spec = tie.close (tie.spec (λ c. search) (λ c. search) (λ c. search opening) (λ c. search opening))
