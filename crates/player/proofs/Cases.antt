@@ -1,0 +1,82 @@
+-- The cases of specs/Cases.antt, a list at a time, by computing. A definition that is changed gives another text, and the
+-- list with such a case is refused.
+use mathlib.Core.Path.{_≡_, refl}
+use mathlib.Core.Bool.{true, false}
+use mathlib.Core.List.{List}
+use Prim.Native.Nat.{ℕ}
+use lib.ListN.{length}
+use Rattle.book.specs.Total.{total, any, all}
+use Rattle.book.specs.Sizes.{fits, isLabel, isOrder, currentTurn, isOwned}
+use Rattle.book.specs.Steps.{decode}
+use Rattle.book.specs.Verdicts.{admitted, lookable, startable, placeable}
+use Rattle.line.specs.Line as L
+use Rattle.line.specs.Rules.{ofBlocks, inOrder}
+use Rattle.line.specs.Check as C
+use Rattle.line.specs.Calls as Calls
+use Rattle.player.specs.Schedule as S
+use Rattle.player.specs.Printed as P
+use Rattle.player.specs.Cases.{ListingCases, HeaderCases, UnfitCases, CutCases, SizeCases, NumberCases, WordCases, DecimalCases, LimitCases}
+
+-- ---- what is computed with: to unfold one of these is to unfold all that it names
+
+shared : Unit {0}
+unfolding total any all fits isLabel isOrder currentTurn isOwned decode admitted lookable startable placeable
+shared = tt
+
+desks : Unit {0}
+unfolding L.deskOf L.recordOf L.entryOf L.labelAt L.lookStep L.winnable L.claimStep L.fetchStep L.finishStep L.taken L.deskStep
+desks = tt
+
+owner : Unit {0}
+unfolding L.opened L.isBusy L.mayPut L.stored L.putStep L.putMany L.orderStep L.reach L.readAt L.getStep L.does
+owner = tt
+
+check : Unit {0}
+unfolding shared desks owner C.isCurrent C.deskHolds C.noClash C.isZeros C.holds1 C.holds2 C.holds3 C.holds4 C.holds5 C.holds6 C.holds7 C.holds ofBlocks inOrder C.fit C.firstBroken C.check
+check = tt
+
+schedule : Unit {0}
+unfolding check Calls.step Calls.answers S.isHeader S.stepsFrom S.stepsOf S.numbered S.cutShort S.run S.opening S.played
+schedule = tt
+
+print : Unit {0}
+unfolding schedule P.digits P.decimal P.lineText P.printed
+print = tt
+
+-- ---- the cases
+
+pub listing-cases : ListingCases
+unfolding print ListingCases
+listing-cases = refl
+
+pub header-cases : HeaderCases
+unfolding print HeaderCases
+header-cases = refl
+
+pub unfit-cases : UnfitCases
+unfolding print UnfitCases
+unfit-cases = refl
+
+pub cut-cases : CutCases
+unfolding print CutCases
+cut-cases = refl
+
+pub size-cases : SizeCases
+unfolding print SizeCases
+size-cases = refl
+
+pub number-cases : NumberCases
+unfolding print NumberCases
+number-cases = refl
+
+pub word-cases : WordCases
+unfolding print WordCases
+word-cases = refl
+
+pub decimal-cases : DecimalCases
+unfolding print DecimalCases
+decimal-cases = refl
+
+pub limit-cases : LimitCases
+unfolding S.played P.digits P.decimal P.lineText P.printed LimitCases
+limit-cases = (λ bs e. rw e refl, λ bs e h. rw (e, h) refl)

@@ -1,0 +1,94 @@
+-- What is left to say once i steps are played and the line is l: it begins with the answer of step i + 1, and at the end
+-- only a step cut short is left. Whoever writes the rest behind what is written has written the whole.
+use mathlib.Core.Path.{_≡_, refl, sym, subst, _∙_}
+use mathlib.Core.Bool.{Bool, true, false}
+use mathlib.Core.List.{List, [], _∷_, _++_, append-nil}
+use Prim.Native.Nat.{ℕ, suc, _+_, _-_, _*_, _%_, _≤_, _<_}
+use native.Mathlib.Nat.{sub-zero}
+use native.Mathlib.Numerals.{add-one}
+use native.Mathlib.Omega.{arith}
+use borrow.Author.Tests.{eqb-false, not-true}
+use lib.ListN.{length}
+use Rattle.book.specs.Choice.{_≡ᵇ_}
+use Rattle.line.specs.Line.{Line, Outcome}
+use Rattle.line.specs.Calls.{step, answers}
+use Rattle.player.specs.Schedule.{limit, headerBytes, stepBytes, stepAt, stepsFrom, wholeSteps, stepsOf, isCut, Spoken, spoken, numbered, cutAt, cutShort, run}
+use Rattle.player.specs.Printed.{line, printed}
+use Rattle.player.specs.Parts.{textBytes, Writes}
+use Rattle.player.proofs.Stores.{writes-more, writes-none}
+
+module _ (bs : List ℕ) where
+  -- where step i + 1 stands
+  abbrev pub placeOf : ℕ → ℕ
+  placeOf i = headerBytes + stepBytes * i
+
+  pub restOf : ℕ → Line → List Spoken
+  restOf i l = numbered (suc i) (answers l (stepsFrom bs (wholeSteps bs - i) (placeOf i))) ++ cutShort bs
+
+  pub rest-all : (l : Line) → restOf 0 l ≡ run bs l
+  unfolding restOf run stepsOf
+  rest-all l = rw (sub-zero (wholeSteps bs)) refl
+
+  pub rest-next : (i : ℕ) (l : Line) → i < wholeSteps bs → let o = step l (stepAt bs (placeOf i)) in restOf i l ≡ spoken (suc i) (o .answer) ∷ restOf (i + 1) (o .line)
+  unfolding restOf numbered answers stepsFrom
+  rest-next i l h =
+      let e : wholeSteps bs - i ≡ suc (wholeSteps bs - (i + 1)) = omega arith in
+      let p : placeOf i + stepBytes ≡ placeOf (i + 1) = omega arith in
+      rw (e, p, add-one i) refl
+
+  pub rest-last : (i : ℕ) (l : Line) → i ≡ wholeSteps bs → restOf i l ≡ cutShort bs
+  unfolding restOf numbered answers stepsFrom
+  rest-last i l e = let z : wholeSteps bs - i ≡ 0 = omega arith in rw z refl
+
+  -- ---- how many steps, and the room that they have
+
+  module _ (short : length bs ≤ limit) (i at : ℕ) (most : at ≤ 25 * i) where
+    -- 7,200 steps at most: four digits
+    pub number-few : (n : ℕ) → i ≤ wholeSteps bs → n ≡ suc i → n < 10000
+    number-few n h e = omega arith
+
+    pub step-room : i < wholeSteps bs → at + 25 ≤ textBytes
+    step-room h = omega arith
+
+    -- where a step is cut short, there are fewer whole ones than a schedule can have
+    pub cut-room : (b : Bool) → b ≡ isCut bs → b ≡ true → i ≡ wholeSteps bs → at + 25 ≤ textBytes
+    cut-room b c t e =
+        let over = (length bs - headerBytes) % stepBytes in
+        let some : over ≡ 0 → ⊥ = eqb-false over 0 (not-true (over ≡ᵇ 0) (sym c ∙ t)) in
+        omega arith
+
+  -- ---- what is written, and what is left
+
+  -- o holds text up to place at, with i steps played and the line l: whoever writes the rest there has written xs over o₀
+  pub Continues : List ℕ → List ℕ → ℕ → Line → ℕ → List ℕ → Type 0
+  Continues xs o₀ i l at o = (r : ℕ) (after : List ℕ) → Writes at (printed (restOf i l)) o r after → Writes 0 xs o₀ r after
+
+  pub none-played : (l : Line) (o : List ℕ) → Continues (printed (run bs l)) o 0 l 0 o
+  unfolding Continues
+  none-played l o r after w = rw (rest-all l) at w
+
+  module _ (xs o₀ : List ℕ) (i : ℕ) (l : Line) (at : ℕ) (o : List ℕ) (g : Continues xs o₀ i l at o) where
+    writes-rest : (ss : List Spoken) (r : ℕ) (after : List ℕ) → restOf i l ≡ ss → Writes at (printed ss) o r after → Writes 0 xs o₀ r after
+    unfolding Continues
+    writes-rest ss r after e w = g r after (subst (λ (l : List Spoken). Writes at (printed l) o r after) (sym e) w)
+
+    pub one-played : (q : Outcome) (n p : ℕ) (o₁ : List ℕ) → i < wholeSteps bs → q ≡ step l (stepAt bs (placeOf i)) → n ≡ suc i → Writes at (line (spoken n (q .answer))) o p o₁
+        → Continues xs o₀ (i + 1) (q .line) p o₁
+    unfolding Continues printed
+    one-played q n p o₁ h e k w r after v =
+        let ss = restOf (i + 1) (q .line) in
+        let next : restOf i l ≡ spoken n (q .answer) ∷ ss = rw (k, e) (rest-next i l h) in
+        writes-rest (spoken n (q .answer) ∷ ss) r after next (writes-more at p r (line (spoken n (q .answer))) (printed ss) o o₁ after w v)
+
+    module _ (e : i ≡ wholeSteps bs) (b : Bool) (c : b ≡ isCut bs) where
+      pub all-played : b ≡ false → at ≤ length o → Writes 0 xs o₀ at o
+      unfolding printed cutShort
+      all-played f h =
+          let none : restOf i l ≡ [] = rest-last i l e ∙ rw (← c, f) refl in
+          writes-rest [] at o none (writes-none at o h)
+
+      pub one-cut : (n p : ℕ) (o₁ : List ℕ) → b ≡ true → n ≡ suc (wholeSteps bs) → Writes at (line (cutAt n)) o p o₁ → Writes 0 xs o₀ p o₁
+      unfolding printed cutShort
+      one-cut n p o₁ t k w =
+          let last : restOf i l ≡ cutAt n ∷ [] = rest-last i l e ∙ rw (← c, t, k) refl in
+          writes-rest (cutAt n ∷ []) p o₁ last (rw (append-nil (line (cutAt n))) w)

@@ -1,0 +1,17 @@
+-- Eight bytes or more, of which the first five are the letters and the version.
+use borrow.Author.Needs.{needs}
+use borrow.Author.Tests.{le-leb, lt-leb}
+use Rattle.player.specs.Schedule.{isHeader}
+use Rattle.player.proofs.reading.is_header.Statement.{statement}
+use Rattle.player.proofs.reading.is_header.Tie as tie
+
+whole : tie.Need-returns
+unfolding isHeader
+whole c = rw (le-leb _ _ (c .before .before .before .before .before .if1 .taken))
+
+short : tie.Need-returns-2
+unfolding isHeader
+short c = rw (lt-leb _ _ (c .if1 .left))
+
+pub is-header-spec : {M : Type 1} → statement M
+is-header-spec = tie.close (tie.spec (λ c. search needs) (λ c. search needs) (λ c. search needs) (λ c. search needs) (λ c. search needs) whole short)

@@ -1,0 +1,16 @@
+-- The word is CUT.
+use borrow.Author.Needs.{needs}
+use Rattle.player.proofs.Lines.{spelled-short, word-written}
+use Rattle.player.proofs.writing.write_cut.Statement.{statement}
+use Rattle.player.proofs.writing.write_cut.Tie as tie
+
+write-line-requires : tie.Need-write-line-requires
+write-line-requires c κs = let s = c .before .before .before .before .before in (s .pre .0, s .pre .1, spelled-short "CUT" _ (c .spelt .ensures) tt)
+
+returns : tie.Need-returns
+returns c =
+    let l = c .before .before in let e = l .write-line .ensures in
+    (word-written _ _ _ _ "CUT" _ _ _ (l .before .spelt .ensures) (e .0), e .1)
+
+pub write-cut-spec : {M : Type 1} → statement M
+write-cut-spec = tie.close (tie.spec (λ c κs. search needs) write-line-requires (λ c. search needs) returns)

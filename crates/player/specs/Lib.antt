@@ -1,0 +1,6 @@
+pub mod Schedule
+pub mod Printed
+pub mod Promises
+pub mod Parts
+pub mod Demands
+pub mod Cases

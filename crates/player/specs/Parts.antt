@@ -1,0 +1,58 @@
+-- What the functions behind `play` promise and ask for: a step as it is read, bytes written from a place on, the entries that
+-- are lent, and what the line is played with.
+use mathlib.Core.Path.{_≡_}
+use mathlib.Core.List.{List}
+use Prim.Native.Nat.{ℕ, _+_, _*_, _≤_}
+use lib.ListN.{length, take, replicate}
+use lib.Seq.{sets}
+use Rattle.words.specs.declared.Letters.{Letters}
+use Rattle.book.specs.Choice.{if_then_else_, _<ᵇ_}
+use Rattle.book.specs.Steps.{Step}
+use Rattle.line.specs.Line.{Line, sizeOf}
+use Rattle.line.specs.Agrees.{Lawful}
+use Rattle.player.specs.declared.reading.Asked.{Asked}
+use Rattle.player.specs.Schedule.{limit, headerBytes}
+
+-- ---- reading and writing
+
+-- a step as it is read, and the letters of a word as it is handed over
+abbrev pub stepOf : Asked → Step
+stepOf s = record { code = s .code; a = s .a; b = s .b }
+
+abbrev pub lettersOf : Letters → List ℕ
+lettersOf w = take (w .len) (w .bytes)
+
+-- there is room for the bytes xs from place at on, they are stored there, and the answer is the place behind them
+pub record Writes (at : ℕ) (xs before : List ℕ) (r : ℕ) (after : List ℕ) : Type 0 where
+  pub room : r ≤ length before
+  pub answer : r ≡ at + length xs
+  pub stored : after ≡ sets before at xs
+
+-- ---- playing
+
+-- room for every text: 7,200 lines at most, of 25 bytes at most
+abbrev pub textBytes : ℕ
+textBytes = 180000
+
+-- the store
+abbrev pub storeEntries : ℕ
+storeEntries = 4096
+
+-- of the store's entries NB x NE are lent, where there are so many
+abbrev pub entriesLent : ℕ → ℕ → ℕ
+entriesLent nb ne = if nb * ne <ᵇ storeEntries then nb * ne else storeEntries
+
+-- a schedule with its header, not too long, room for its text, and the store, all zero
+pub record Ready (bs before store : List ℕ) : Type 0 where
+  pub header : headerBytes ≤ length bs
+  pub few : length bs ≤ limit
+  pub room : length before ≡ textBytes
+  pub zeros : store ≡ replicate storeEntries 0
+
+-- the same with a sound line, lent with its n records
+pub record Playable (bs before : List ℕ) (l : Line) (n : ℕ) : Type 0 where
+  pub header : headerBytes ≤ length bs
+  pub few : length bs ≤ limit
+  pub room : length before ≡ textBytes
+  pub sound : Lawful (sizeOf (l .head)) l
+  pub blocks : n ≡ l .head .nb

@@ -1,0 +1,78 @@
+// A schedule that has its header: the line is opened in the store, and the steps are played on it.
+use crate::steps::play_steps;
+use crate::writing::only_unfit;
+use engine::opening::open;
+use line::Block;
+use line::Desk;
+use line::Head;
+use line::Opening;
+ghost use mathlib.Core.Path.{_≡_};
+ghost use lib.ListN.{length};
+ghost use Rattle.player.specs.Schedule.{opening};
+ghost use Rattle.player.specs.Printed.{printed};
+ghost use Rattle.player.specs.Parts.{Writes, Ready, entriesLent};
+
+// A head and a table to open over.
+fn no_head() -> Head {
+    let idle = Desk {
+        stage: 0,
+        place: 0,
+        turn: 0,
+    };
+    let desks = [idle; 16];
+    Head {
+        nb: 0,
+        ne: 0,
+        t: 0,
+        reading: 0,
+        p: 0,
+        k: 0,
+        desks,
+    }
+}
+
+fn no_table() -> [Block; 64]
+    ensures { λ r. ⌜ length r ≡ 64 ⌝ }
+{
+    let unused = Block {
+        round: 0,
+        written: 0,
+        claimed: 0,
+        finished: 0,
+    };
+    [unused; 64]
+}
+
+// The entries that a line of nb blocks of ne entries is lent: nb x ne, as far as the store goes. Where
+// that is less, the numbers are outside their limits, and opening refuses them.
+fn lent(nb: u8, ne: u8) -> usize
+    ensures { λ r. ⌜ r ≡ entriesLent nb ne ⌝ }
+{
+    let m = (nb as usize) * (ne as usize);
+    if m < 4096 { m } else { 4096 }
+}
+
+// The store is 4,096 entries, all zero; its first nb x ne are lent on.
+pub fn play_opened(input: &[u8], out: &mut [u8], store: &mut [u32], nb: u8, ne: u8, t: u8) -> usize
+    requires { ⌜ Ready (now input) (now out) (now store) ⌝ }
+    ensures { λ r. ⌜ Writes 0 (printed (opening (now (input .entry)) (record { nb = nb; ne = ne; t = t }))) (now (out .entry)) r (now (out .exit)) ⌝ }
+{
+    let m = lent(nb, ne);
+    let n = nb as usize;
+    let opened = open(
+        no_head(),
+        no_table(),
+        n,
+        &mut store[..m],
+        nb as u16,
+        ne as u16,
+        t as u16,
+    );
+    let head = opened.head;
+    let table = opened.table;
+    let answer = opened.answer;
+    match answer {
+        Opening::Open => play_steps(input, out, head, table, n, &mut store[..m]),
+        Opening::Unfit => only_unfit(out),
+    }
+}
