@@ -2,6 +2,7 @@ pub mod Narrowed
 mod Parts
 pub mod Crossing
 mod Single
+mod Lent
 mod Reading
 mod Passing
 mod Replied

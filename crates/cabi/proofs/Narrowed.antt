@@ -13,7 +13,7 @@ use Rattle.line.specs.Check.{fit}
 use Rattle.line.specs.Calls.{step, opens}
 use Rattle.line.proofs.Cells.{valid}
 use Rattle.engine.proofs.Codes.{high-at}
-use Rattle.cabi.specs.Narrow.{atMost}
+use Rattle.cabi.specs.Narrow.{atMost, narrowCode, narrowSize}
 
 pub kept : (high n : ℕ) → n ≤ high → n ≡ atMost high n
 unfolding atMost
@@ -33,21 +33,21 @@ module _ (a b : ℕ) where
   abbrev coded : ℕ → Step
   coded c = record { code = c; a = a; b = b }
 
-  decodes : (c : ℕ) → decode (coded (atMost 255 c)) ≡ decode (coded c)
+  decodes : (c : ℕ) → decode (coded (narrowCode c)) ≡ decode (coded c)
   decodes c =
       cases (leb c 255) (λ t. ap (λ (n : ℕ). decode (coded n)) (sym (kept 255 c (leb→le c 255 t))))
       (λ t. let h = nleb→lt c 255 t in ap (λ (n : ℕ). decode (coded n)) (sym (cut 255 c h)) ∙ sym (high-at a b 255 (omega arith)) ∙ high-at a b c (omega (arith, h)))
 
-  pub code-narrowed : (l : Line) (c : ℕ) → step l (coded (atMost 255 c)) ≡ step l (coded c)
+  pub code-narrowed : (l : Line) (c : ℕ) → step l (coded (narrowCode c)) ≡ step l (coded c)
   unfolding step
   code-narrowed l c = rw (decodes c) refl
 
 -- ---- sizes
 
 abbrev pub narrowed : Size → Size
-narrowed z = record { nb = atMost 65535 (z .nb); ne = atMost 65535 (z .ne); t = atMost 65535 (z .t) }
+narrowed z = record { nb = narrowSize (z .nb); ne = narrowSize (z .ne); t = narrowSize (z .t) }
 
-fits-16 : (n : ℕ) → atMost 65535 n ≤ 64 → n ≤ 65535
+fits-16 : (n : ℕ) → narrowSize n ≤ 64 → n ≤ 65535
 fits-16 n h = cases (leb n 65535) (λ t. leb→le n 65535 t) (λ t. let e = cut 65535 n (nleb→lt n 65535 t) in absurd (omega (arith, e, h)))
 
 -- numbers of 16 bits are narrowed to themselves: those that fit, and those that fit once they are narrowed

@@ -8,7 +8,7 @@ use Rattle.line.specs.Line.{Line}
 use Rattle.line.specs.declared.Opening.{Opening}
 use Rattle.line.specs.Calls.{opens, step}
 use Rattle.portal.specs.Promises as Portal
-use Rattle.cabi.specs.Narrow.{atMost}
+use Rattle.cabi.specs.Narrow.{narrowCode}
 use Rattle.cabi.specs.Replies.{Reply, ofAnswer, ofOpening}
 use Rattle.cabi.specs.Promises.{begun, replied, Opens, Steps, Orders}
 use Rattle.cabi.proofs.Narrowed.{code-narrowed, narrowed, size-narrowed}
@@ -18,7 +18,7 @@ module _ (l m : Line) (r : Reply) where
   opened x told z y narrow e = ap (λ (s : Reply). record { line = m; reply = s }) told ∙ ap begun (e ∙ ap (opens l) narrow ∙ size-narrowed l z)
 
   module _ (x : Answer) (told : r ≡ ofAnswer x) where
-    pub stepped : (c d a b : ℕ) → d ≡ atMost 255 c → Portal.Steps l (record { code = d; a = a; b = b }) x m → Steps l (record { code = c; a = a; b = b }) r m
+    pub stepped : (c d a b : ℕ) → d ≡ narrowCode c → Portal.Steps l (record { code = d; a = a; b = b }) x m → Steps l (record { code = c; a = a; b = b }) r m
     stepped c d a b narrow e =
         ap (λ (s : Reply). record { line = m; reply = s }) told ∙ ap replied (e ∙ ap (λ (n : ℕ). step l (record { code = n; a = a; b = b })) narrow ∙ code-narrowed a b l c)
 

@@ -1,4 +1,4 @@
--- What crosses of each answer: the paper's number (0 where it is no refusal) and the values.
+-- What crosses of each answer: the paper's number, or 0 where it is no refusal, and the values.
 use Prim.Native.Nat.{ℕ}
 use Rattle.words.specs.declared.Refusal.{Refusal}
 use Rattle.words.specs.declared.Refusal.the-variants.{Unfit, Damaged}

@@ -1,7 +1,7 @@
 // The portal's calls for C and Rust. `rt staticlib cabi` writes them to target/staticlib/libcabi.a.
 //
-// What crosses are numbers and records of numbers. A caller lends its own memory: head, table and entries are used
-// where they are, laid out as C lays out
+// What crosses are numbers and records of numbers. A caller lends its own memory, head, table and entries, laid out as
+// C lays out
 //
 //     typedef struct { uint16_t stage, place; uint32_t turn; } Desk;
 //     typedef struct { uint16_t nb, ne, t, reading; uint32_t p, k; Desk desks[16]; } Head;
@@ -9,15 +9,15 @@
 //
 // A slice is two arguments, where it begins and how many it has:
 //
-//     Reply lbq_open(Head *head, Block *table, size_t records, uint32_t *entries, size_t places,
+//     Reply lbq_open(Head *head, Block *table, size_t table_len, uint32_t *entries, size_t entries_len,
 //                    uint32_t nb, uint32_t ne, uint32_t t);
 //
 // and so for the others, with the numbers last; `lbq_check` and `lbq_survey` take `const` pointers and no number.
 //
 // Sizes and codes are 32 bits wide, so that no conversion in C makes a fit number of an unfit one: a size above 65,535
-// is UNFIT, and a code above 255 is BADSTEP. Any numbers and any lengths may be given, and no call asks for anything
-// beforehand. Each promises its whole outcome, refusals included, as one equation with the definitions of the line, at
-// the numbers as they are given: specs/Promises.antt.
+// is UNFIT, and a code above 255 is BADSTEP. Any numbers and any lengths may be given: no call asks for anything
+// beforehand, and each promises its whole outcome, refusals included, as one equation with the definitions of the line,
+// at the numbers as they are given: specs/Promises.antt.
 //
 // Outside the contract is memory that is not there to be lent: a null pointer (also with length 0), one that is not
 // aligned for its type, parts that overlap, and parts that somebody else reads or writes during a call. No call can
@@ -66,10 +66,10 @@ pub extern "C" fn lbq_open(
 ) -> Reply
     ensures { λ r. ⌜ Opens (lent (now (head .entry)) (now (table .entry)) (now (entries .entry))) (record { nb = nb; ne = ne; t = t }) r (lent (now (head .exit)) (now (table .exit)) (now (entries .exit))) ⌝ }
 {
-    let blocks = narrow::size(nb);
-    let places = narrow::size(ne);
-    let desks = narrow::size(t);
-    let opening = portal::open(head, table, entries, blocks, places, desks);
+    let b = narrow::size(nb);
+    let e = narrow::size(ne);
+    let d = narrow::size(t);
+    let opening = portal::open(head, table, entries, b, e, d);
     replies::of_opening(opening)
 }
 

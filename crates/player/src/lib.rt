@@ -8,10 +8,10 @@ mod reading;
 mod steps;
 mod writing;
 
-pub use reading::number_in;
 use opening::play_opened;
 use reading::is_header;
 use reading::is_long;
+pub use reading::number_in;
 use writing::only_header;
 use writing::only_long;
 ghost use Rattle.player.specs.Promises.{Plays};

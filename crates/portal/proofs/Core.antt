@@ -46,10 +46,12 @@ module _ (c : Calling) {M : Type 1} (𝓤 : URA M) (H : Heap 𝓤) (A : Atoms �
     abbrev pub Core-says : c .result .Went → List ℕ → Type 0
     Core-says r fs = c .Says h t n (y .now) (numbers 1 (κ, tt) (c .widths) ns) r fs × (length fs ≡ length (y .now))
 
+    -- what its promise says of the result and of the entries' last numbers
     core-said : (r : c .result .Went) → ent 𝓤 (ensured 𝓤 H A (core-ended c) (core-clauses c 𝓤) (κ, tt) to-args tt r)
         (ex 𝓤 (λ (fs : List ℕ). guard 𝓤 (Core-says r fs) (sem 𝓤 H A (finally u32 (y .name) fs))))
     core-said r =
-        qed W (some (λ (ws : Lasts (core-ended c) (κ, tt) to-args). ‵ (lasts (core-ended c) (κ, tt) to-args ws) ⊛ raw (fact 𝓤 (c .Says h t n (y .now) (numbers 1 (κ, tt) (c .widths) ns) r (ws .1 .1 .1 .0)))) ∷ []) ∵
+        qed W (some (λ (ws : Lasts (core-ended c) (κ, tt) to-args). ‵ (lasts (core-ended c) (κ, tt) to-args ws)
+        ⊛ raw (fact 𝓤 (c .Says h t n (y .now) (numbers 1 (κ, tt) (c .widths) ns) r (ws .1 .1 .1 .0)))) ∷ []) ∵
         pick ! (λ ws. split ! $ move ! (1 ∷ []) $ heard ! (c .Says h t n (y .now) (numbers 1 (κ, tt) (c .widths) ns) r (ws .1 .1 .1 .0)) (λ e.
         fsplit ! $ move ! (1 ∷ []) $ fsplit ! $ move ! (1 ∷ []) $ fsplit ! $ move ! (1 ∷ []) $ fsplit ! $ fsplit ! $ move ! (1 ∷ []) $ feqL ! (λ len.
         show ! (λ (fs : List ℕ). guard 𝓤 (Core-says r fs) (sem 𝓤 H A (finally u32 (y .name) fs))) (ws .1 .1 .1 .0) $ check ! (e, len) $ keep ! (0 ∷ []) $ done !)))
@@ -62,16 +64,21 @@ module _ (c : Calling) {M : Type 1} (𝓤 : URA M) (H : Heap 𝓤) (A : Atoms �
     goes-core q w is-h is-t n-fits fit =
         qed W (‵ (flft κ q) ∷ ‵ (MutSlice (named 0) κ u32 .own y (slice-vals y)) ∷ []) ∵
         use0 W (‵ (owns (rows 1 (κ, tt) (c .widths)) ns (vals 1 (κ, tt) (c .widths) ns))) (owned-all 𝓤 H A W 1 (κ, tt) (c .widths) ns fit) $
-        move ! (2 ∷ 0 ∷ []) $ fjoin ! $ owned ! usize (Is usize) (uint-makes 𝓤 H A W w64) n _ (refl, n-fits) $ fjoin ! $ owned ! RT (Is RT) (table-makes 𝓤 H A W) t _ is-t $ fjoin ! $
+        move ! (2 ∷ 0 ∷ []) $ fjoin ! $ owned ! usize (Is usize) (uint-makes 𝓤 H A W w64) n _ (refl, n-fits) $ fjoin ! $
+        owned ! RT (Is RT) (table-makes 𝓤 H A W) t _ is-t $ fjoin ! $
         owned ! RH (Is RH) (head-makes 𝓤 H A W) h _ is-h $ fjoin ! $ nothing ! $ move ! (2 ∷ 0 ∷ []) $ join ! $ join ! $ frame ! $ done !
 
     module _ {K : Type 0} {Γ : List (Item 𝓤)} {E : Env 𝓤 H} {C : Calls 𝓤 H} {Λ : Loops 𝓤 H} {p : Post 𝓤 H} {xs : List Operand} {d : Place} {rest : Body} where
-      pub calls-core : K → FmC 𝓤 H (W .laws) C → Triple 𝓤 (C (c .core)) Core → (q : Share) (w : Val) → Is RH h (head-val h ∷ []) → Is RT t (w ∷ []) → n < 2 ^ 64 → Fit 1 (κ, tt) (c .widths) ns
+      -- the result is there, the token is back, and of the entries what they are at last
+      pub calls-core : K → FmC 𝓤 H (W .laws) C → Triple 𝓤 (C (c .core)) Core → (q : Share) (w : Val) → Is RH h (head-val h ∷ []) → Is RT t (w ∷ []) → n < 2 ^ 64
+          → Fit 1 (κ, tt) (c .widths) ns
           → Opds K W (raw (Core .pre (to-core q w)) ∷ Γ) E xs (head-val h ∷ w ∷ vint w64 n ∷ sliceVal (y .ptr) (length (y .now)) ∷ machine 1 (κ, tt) (c .widths) ns)
-          → ((v : Val) (r : c .result .Went) → Is (RS (c .result)) r (v ∷ []) → (fs : List ℕ) → Core-says r fs → Seq K W (‵ (flft κ q) ∷ ‵ (finally u32 (y .name) fs) ∷ Γ) (lands C Λ E d v rest p))
+          → ((v : Val) (r : c .result .Went) → Is (RS (c .result)) r (v ∷ []) → (fs : List ℕ) → Core-says r fs
+          → Seq K W (‵ (flft κ q) ∷ ‵ (finally u32 (y .name) fs) ∷ Γ) (lands C Λ E d v rest p))
           → Seq K W (‵ (flft κ q) ∷ ‵ (MutSlice (named 0) κ u32 .own y (slice-vals y)) ∷ Γ) (runs C Λ E (seq (call (c .core) xs d) rest) p)
       calls-core k fm known q w is-h is-t n-fits fit os next =
           use2 W (raw (Core .pre (to-core q w))) (goes-core q w is-h is-t n-fits fit) $ calls-at k fm Core known (to-core q w) os (λ v.
-          use1 W (later (some (λ (r : c .result .Went). some (λ (fs : List ℕ). given (Is (RS (c .result)) r (v ∷ []) × Core-says r fs) ((‵ (flft κ q) ⊛ ‵ ftrue) ⊛ ‵ (finally u32 (y .name) fs))))))
+          use1 W (later (some (λ (r : c .result .Went). some (λ (fs : List ℕ). given (Is (RS (c .result)) r (v ∷ []) × Core-says r fs)
+          ((‵ (flft κ q) ⊛ ‵ ftrue) ⊛ ‵ (finally u32 (y .name) fs))))))
           (came-last 𝓤 H A W (RS (c .result)) (sep 𝓤 (A .lft κ q) (emp 𝓤)) Core-says (λ fs. sem 𝓤 H A (finally u32 (y .name) fs)) _ core-said v) $
           await k tt $ pick k (λ r. pick k (λ fs. learn k (λ e. split k $ split k $ move k (1 ∷ []) $ drop k $ next v r (e .0) fs (e .1)))))

@@ -135,7 +135,8 @@ module _ (c : Calling) {M : Type 1} (𝓤 : URA M) (P : Promise c 𝓤) (keeps :
       qed W (left r zs fs) ∵
       suffices ! _ (ends-at 𝓤 H A (ended c) (stayed c) (clauses c 𝓤 P) W ((κs, qs, tt, a, a-vals), tt) (answer-val R r) (R .answer r)
       (R .head r, (zs, (fs, lasts 3 κs ws ns))) (tt, (stored .1, (fs-long, stays-fit 3 κs ws ns)))) $
-      adds ! (subst (λ (l : List Block). ent 𝓤 (emp 𝓤) (P κs a (R .answer r) (atExit (ended c) κs a (R .head r, (l, (fs, lasts 3 κs ws ns)))))) (sym (stored .0)) (keeps κs a r fs said)) $
+      adds ! (subst (λ (l : List Block). ent 𝓤 (emp 𝓤) (P κs a (R .answer r) (atExit (ended c) κs a (R .head r, (l, (fs, lasts 3 κs ws ns))))))
+      (sym (stored .0)) (keeps κs a r fs said)) $
       -- the tokens
       nothing ! $ move ! (6 ∷ 0 ∷ []) $ join ! $ move ! (4 ∷ 0 ∷ []) $ join ! $ move ! (3 ∷ 0 ∷ []) $ join ! $ frame ! $
       -- [obs; the head's borrow; the table's last records; the entries' last numbers]
@@ -164,53 +165,65 @@ module _ (c : Calling) {M : Type 1} (𝓤 : URA M) (P : Promise c 𝓤) (keeps :
         -- [κ₂'s token; κ₁'s; κ₀'s; entries; table; obs; the head's borrow; numbers; …]: the head's borrow is opened
         move ! (5 ∷ 6 ∷ 2 ∷ []) $ opens ! tt RH {h = h} b₀ o₀ (λ us. spelt ! RH (Is RH) (shows 𝓤 H A RH) head-vals head-tells fullShare h us b₀ o₀ $
         move ! (1 ∷ []) $ facts ! RH (Is RH) (shows 𝓤 H A RH) h (head-vals h) (λ is-h. move ! (7 ∷ 5 ∷ []) $
-        -- [0 table; 1 κ₁'s token; 2 the head's cell; 3 its open borrow; 4 obs; 5 auth; 6 κ₂'s token; 7 entries; 8 numbers; …],
-        -- and then, here as below, local j of those that are no parameters at 31 − 2j, and local i of the others at 39 − 2i
+        -- [0 table; 1 κ₁'s token; 2 the head's cell; 3 its open borrow; 4 obs; 5 auth; 6 κ₂'s token; 7 entries;
+        -- 8 numbers; …], and then, here as below, the j-th local that is no parameter at 31 − 2j, and local i of the
+        -- first four at 39 − 2i
         assigns ! (of-opd ! (load ! (from ! (fld ! refl (stop !))) (look-in ! 35 (sub ! 1 refl (whole !))))) (from-at ! (it bs _ 0) (stop !))
         (init ! 31 refl (tt, record { fits = room .0 })) $
         -- the table is loaded
-        assigns ! (addr ! (from ! (fld ! refl (hop ! (look-in ! 35 (sub ! 0 refl (whole !))) (stop !))))) (from-at ! (it bs _ 5) (stop !)) (init ! 21 refl (tt, tt)) $
-        assigns ! (agg ! (and-then ! (load ! (from-at ! (it bs _ 5) (stop !)) (look ! 21 refl)) (and-then ! (load ! (from ! (fld ! refl (stop !))) (look-in ! 35 (sub ! 1 refl (whole !)))) (no-more !))))
+        assigns ! (addr ! (from ! (fld ! refl (hop ! (look-in ! 35 (sub ! 0 refl (whole !))) (stop !))))) (from-at ! (it bs _ 5) (stop !))
+        (init ! 21 refl (tt, tt)) $
+        assigns ! (agg ! (and-then ! (load ! (from-at ! (it bs _ 5) (stop !)) (look ! 21 refl))
+        (and-then ! (load ! (from ! (fld ! refl (stop !))) (look-in ! 35 (sub ! 1 refl (whole !)))) (no-more !))))
         (from-at ! (it bs _ 6) (stop !)) (init ! 19 refl (tt, (tt, (record { fits = room .0 }, tt)))) $
-        calls-load-lent 𝓤 H A W at-mem run ! fm known-load (named 1) κ₁ q₁ γ₁ b₁ o₁ ys room
+        calls-load-lent 𝓤 H A W at-mem run ! fm known-load κ₁ q₁ γ₁ b₁ o₁ ys room
         (λ ν δ. and-then ! (load ! (from-at ! (it bs _ 6) (stop !)) (look ! 19 refl)) (no-more !)) (λ w₁ t is-t loads.
         land ! (from-at ! (it bs _ 1) (stop !)) (init ! 29 refl (table-lawful 𝓤 H A W .typed t _ is-t .0)) $
         -- the head is copied, and the core is called
         assigns ! (of-opd ! (load ! (from ! (hop ! (look ! 37 refl) (stop !))) (look-raw ! 2 refl))) (from-at ! (it bs _ 2) (stop !))
         (init ! 27 refl (head-lawful 𝓤 H A W .typed h _ is-h .0)) $
-        assigns ! (addr ! (from ! (fld ! refl (hop ! (look-in ! 33 (sub ! 0 refl (whole !))) (stop !))))) (from-at ! (it bs _ 7) (stop !)) (init ! 17 refl (tt, tt)) $
-        assigns ! (agg ! (and-then ! (load ! (from-at ! (it bs _ 7) (stop !)) (look ! 17 refl)) (and-then ! (load ! (from ! (fld ! refl (stop !))) (look-in ! 33 (sub ! 1 refl (whole !)))) (no-more !))))
+        assigns ! (addr ! (from ! (fld ! refl (hop ! (look-in ! 33 (sub ! 0 refl (whole !))) (stop !))))) (from-at ! (it bs _ 7) (stop !))
+        (init ! 17 refl (tt, tt)) $
+        assigns ! (agg ! (and-then ! (load ! (from-at ! (it bs _ 7) (stop !)) (look ! 17 refl))
+        (and-then ! (load ! (from ! (fld ! refl (stop !))) (look-in ! 33 (sub ! 1 refl (whole !)))) (no-more !))))
         (from-at ! (it bs _ 8) (stop !)) (init ! 15 refl (tt, (tt, (record { fits = room-e .0 }, tt)))) $
         move ! (6 ∷ 7 ∷ []) $ calls-core c 𝓤 H A W h t (length ys) entries κ₂ ms ! fm known-core q₂ w₁ is-h is-t (room .0) (fit-on 3 κs 1 (κ₂, tt) ws ns fit)
         (and-then ! (load ! (from-at ! (it bs _ 2) (stop !)) (look ! 26 refl)) (and-then ! (load ! (from-at ! (it bs _ 1) (stop !)) (look ! 28 refl))
         (and-then ! (load ! (from-at ! (it bs _ 0) (stop !)) (look ! 30 refl)) (and-then ! (load ! (from-at ! (it bs _ 8) (stop !)) (look ! 14 refl))
-        (opds-are ! (machine-on 3 κs 1 (κ₂, tt) ws ns) (read-all ! 7 (ints ws) bs vs 4 (them _ _ _ _ bs _) (typed 𝓤 H A W 3 κs ws ns fit) refl)))))) (λ w₂ r is-r fs said.
+        (opds-are ! (machine-on 3 κs 1 (κ₂, tt) ws ns) (read-all ! 7 (ints ws) bs vs 4 (them _ _ _ _ bs _) (typed 𝓤 H A W 3 κs ws ns fit) refl))))))
+        (λ w₂ r is-r fs said.
         land ! (from-at ! (it bs _ 3) (stop !)) (init ! 25 refl (lawful R 𝓤 H A W .typed r _ is-r .0)) $
         rewrite ! 25 (λ (z : Val). ‵ (fat fullShare (lone (RS R .mir)) m₃ 0 z)) (ap only (val-is R r w₂ is-r)) refl $
-        -- [0 κ₂'s token; 1 the entries' last numbers; 2 table; 3 κ₁'s token; 4 the head's cell; 5 its open borrow; 6 obs; 7 auth; 8 numbers; …]:
-        -- the table is stored
+        -- [0 κ₂'s token; 1 the entries' last numbers; 2 table; 3 κ₁'s token; 4 the head's cell; 5 its open borrow; 6 obs;
+        -- 7 auth; 8 numbers; …]: the table is stored
         assigns ! (of-opd ! (load ! (from-at ! (it bs _ 3) (fld ! refl (stop !))) (look-in ! 25 (sub ! 2 refl (whole !))))) (from-at ! (it bs _ 4) (stop !))
         (init ! 23 refl (table-lawful 𝓤 H A W .typed (R .table r) _ (table-is R r w₂ is-r) .0)) $
-        assigns ! (addr ! (from ! (fld ! refl (hop ! (look-in ! 35 (sub ! 0 refl (whole !))) (stop !))))) (from-at ! (it bs _ 10) (stop !)) (init ! 11 refl (tt, tt)) $
-        assigns ! (agg ! (and-then ! (load ! (from-at ! (it bs _ 10) (stop !)) (look ! 11 refl)) (and-then ! (load ! (from ! (fld ! refl (stop !))) (look-in ! 35 (sub ! 1 refl (whole !)))) (no-more !))))
+        assigns ! (addr ! (from ! (fld ! refl (hop ! (look-in ! 35 (sub ! 0 refl (whole !))) (stop !))))) (from-at ! (it bs _ 10) (stop !))
+        (init ! 11 refl (tt, tt)) $
+        assigns ! (agg ! (and-then ! (load ! (from-at ! (it bs _ 10) (stop !)) (look ! 11 refl))
+        (and-then ! (load ! (from ! (fld ! refl (stop !))) (look-in ! 35 (sub ! 1 refl (whole !)))) (no-more !))))
         (from-at ! (it bs _ 11) (stop !)) (init ! 9 refl (tt, (tt, (record { fits = room .0 }, tt)))) $
         move ! (3 ∷ 2 ∷ []) $ calls-store 𝓤 H A W at-mem run ! fm known-store κ₁ q₁ table (R .table r) (table-val R r) (table-is R r w₂ is-r)
-        (and-then ! (load ! (from-at ! (it bs _ 11) (stop !)) (look ! 8 refl)) (and-then ! (load ! (from-at ! (it bs _ 4) (stop !)) (look ! 22 refl)) (no-more !))) (λ w₃ z is-z zs stores.
+        (and-then ! (load ! (from-at ! (it bs _ 11) (stop !)) (look ! 8 refl)) (and-then ! (load ! (from-at ! (it bs _ 4) (stop !)) (look ! 22 refl)) (no-more !)))
+        (λ w₃ z is-z zs stores.
         land ! (from-at ! (it bs _ 9) (stop !)) (init ! 13 refl (nothing-lawful 𝓤 H A W .typed z _ is-z .0)) $
-        -- [0 κ₁'s token; 1 the table's last records; 2 κ₂'s token; 3 the entries' last numbers; 4 the head's cell; 5 its open borrow; 6 obs; 7 auth; 8 numbers; …]:
-        -- the new head is stored, and its borrow is closed
+        -- [0 κ₁'s token; 1 the table's last records; 2 κ₂'s token; 3 the entries' last numbers; 4 the head's cell;
+        -- 5 its open borrow; 6 obs; 7 auth; 8 numbers; …]: the new head is stored, and its borrow is closed
         assigns ! (of-opd ! (load ! (from-at ! (it bs _ 3) (fld ! refl (stop !))) (look-in ! 25 (sub ! 1 refl (whole !))))) (from ! (hop ! (look ! 37 refl) (stop !)))
         (store-raw ! 4 refl (head-lawful 𝓤 H A W .typed (R .head r) _ (head-is R r w₂ is-r) .0)) $
         assigns ! (of-opd ! (load ! (from-at ! (it bs _ 3) (fld ! refl (stop !))) (look-in ! 25 (sub ! 0 refl (whole !))))) (from ! (stop !))
         (init ! 39 refl (answer-lawful R 𝓤 H A W .typed (R .Answer .to (R .answer r)) _ (answer-is R r w₂ is-r) .0)) $
-        owned ! RH (Is RH) (head-makes 𝓤 H A W) (R .head r) _ (head-is R r w₂ is-r) $ move ! (5 ∷ 0 ∷ 6 ∷ 7 ∷ 8 ∷ []) $ closes ! tt RH (R .head r) (head-vals (R .head r)) b₀ o₀ $
+        owned ! RH (Is RH) (head-makes 𝓤 H A W) (R .head r) _ (head-is R r w₂ is-r) $ move ! (5 ∷ 0 ∷ 6 ∷ 7 ∷ 8 ∷ []) $
+        closes ! tt RH (R .head r) (head-vals (R .head r)) b₀ o₀ $
         -- [seven entries, as in `left`; 7 numbers; …]: the answer is returned, and the locals are freed
         returns ! (look ! 38 refl) $
-        move ! (38 ∷ 39 ∷ 36 ∷ 37 ∷ 34 ∷ 35 ∷ 32 ∷ 33 ∷ 7 ∷ 30 ∷ 31 ∷ 28 ∷ 29 ∷ 26 ∷ 27 ∷ 24 ∷ 25 ∷ 22 ∷ 23 ∷ 20 ∷ 21 ∷ 18 ∷ 19 ∷ 16 ∷ 17 ∷ 14 ∷ 15 ∷ 12 ∷ 13 ∷ 10 ∷ 11 ∷ 8 ∷ 9 ∷ []) $
+        move ! (38 ∷ 39 ∷ 36 ∷ 37 ∷ 34 ∷ 35 ∷ 32 ∷ 33 ∷ 7
+        ∷ 30 ∷ 31 ∷ 28 ∷ 29 ∷ 26 ∷ 27 ∷ 24 ∷ 25 ∷ 22 ∷ 23 ∷ 20 ∷ 21 ∷ 18 ∷ 19 ∷ 16 ∷ 17 ∷ 14 ∷ 15 ∷ 12 ∷ 13 ∷ 10 ∷ 11 ∷ 8 ∷ 9 ∷ []) $
         free ! $ free ! $ free ! $ free ! $ free-all ! (ints ws) bs vs (typed 𝓤 H A W 3 κs ws ns fit) $
         free ! $ free ! $ free ! $ free ! $ free ! $ free ! $ free ! $ free ! $ free ! $ free ! $ free ! $ free ! $ free0 ! $
         by ! (exits r (answer-is R r w₂ is-r) fs
-        (subst (λ (l : List Block). c .Says h l (length ys) es x r fs) loads (subst (λ (y : Numbers ws). c .Says h t (length ys) es y r fs) (numbers-args 1 (κ₂, tt) ws x) (said .0)))
+        (subst (λ (l : List Block). c .Says h l (length ys) es x r fs) loads
+        (subst (λ (y : Numbers ws). c .Says h t (length ys) es y r fs) (numbers-args 1 (κ₂, tt) ws x) (said .0)))
         (said .1) zs stores)))))))))))))))))))))))
 
 module _ (c : Calling) {M : Type 1} (𝓤 : URA M) (P : Promise c 𝓤) (keeps : Keeps c 𝓤 P) (H : Heap 𝓤) where
@@ -222,7 +235,8 @@ module _ (c : Calling) {M : Type 1} (𝓤 : URA M) (P : Promise c 𝓤) (keeps :
       (known-store : Triple 𝓤 (𝓣 .C #table·store) (Store 𝓤 H A W at-mem run)) where
     walks : Walks 𝓤 H A (ended c) (stayed c) (WpFn 𝓤 H (𝓣 .C) (𝓣 .Λ) (function c)) (clauses c 𝓤 P)
     walks =
-        walked 𝓤 H A (ended c) (stayed c) (clauses c 𝓤 P) (WpFn 𝓤 H (𝓣 .C) (𝓣 .Λ) (function c)) (λ κs. (ptr-vals, (slice-vals, (slice-vals, spells 3 κs (c .widths)))))
+        walked 𝓤 H A (ended c) (stayed c) (clauses c 𝓤 P) (WpFn 𝓤 H (𝓣 .C) (𝓣 .Λ) (function c))
+        (λ κs. (ptr-vals, (slice-vals, (slice-vals, spells 3 κs (c .widths)))))
         (λ κs. (mut-tells (named 0) (κs .0) RH, (mut-slice-tells (named 1) (κs .1 .0) RB, (mut-slice-tells (named 2) (κs .1 .1 .0) u32, tells 3 κs (c .widths)))))
         (λ κs qs bounds a g are. via 𝓤 _ (fst∗ 𝓤 _ (emp 𝓤)) (walk c 𝓤 P keeps H A W at-mem run (κs .0) (κs .1 .0) (κs .1 .1 .0) (qs .0) (qs .1 .0) (qs .1 .1 .0)
         (a .0 .ptr .0) (a .0 .ptr .1) (a .0 .name) (a .0 .now) (a .1 .0 .ptr .0) (a .1 .0 .ptr .1) (a .1 .0 .name) (a .1 .0 .now)
@@ -231,8 +245,13 @@ module _ (c : Calling) {M : Type 1} (𝓤 : URA M) (P : Promise c 𝓤) (keeps :
 
     meets : Met A (WpFn 𝓤 H (𝓣 .C) (𝓣 .Λ) (function c))
     meets =
-        walk-meets 𝓤 H A (ended c) (stayed c) W
-        (goes-ref 𝓤 H A W 3 0 tt (plain (λ _. RH)), (goes-gave-slice 𝓤 H A W 3 1 tt (plain (λ _. RB)), (goes-gave-slice 𝓤 H A W 3 2 tt (plain (λ _. u32)), go-away 𝓤 H A W 3 (c .widths))))
+        walk-meets 𝓤 H A (ended c) (stayed c) W (
+          goes-ref 𝓤 H A W 3 0 tt (plain (λ _. RH)),
+          (
+            goes-gave-slice 𝓤 H A W 3 1 tt (plain (λ _. RB)),
+            (goes-gave-slice 𝓤 H A W 3 2 tt (plain (λ _. u32)), go-away 𝓤 H A W 3 (c .widths)),
+          ),
+        )
         (clauses c 𝓤 P) (WpFn 𝓤 H (𝓣 .C) (𝓣 .Λ) (function c)) (WpFn-mono 𝓤 H (W .laws) 𝓣 (function c)) walks
 
   -- a call meets its contract wherever its core does: `load` and `store` are those that were proved

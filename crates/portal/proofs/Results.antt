@@ -9,9 +9,8 @@ use prog.Wp.{Heap}
 use ghost.Atoms.{Atoms}
 use types.Kit.{Given}
 use denote.RattleType.{RattleType, Denots}
-use denote.Array.{Array}
 use denote.Laws.{Is, Lawful, Makes}
-use denote.Struct.Field.{rows, array-field}
+use denote.Struct.Field.{Field, rows, array-field}
 use denote.Struct.Declared as SD
 use denote.Struct.Laws as LL
 use denote.Enum.Enum.{Plainss}
@@ -31,20 +30,22 @@ use Rattle.line.proofs.Opening as G
 use Rattle.line.proofs.Opening.Laws as G′
 use Rattle.engine.proofs.Went as S
 use Rattle.engine.proofs.opening.Opened as O
-use Rattle.walk.proofs.Records.{array-of}
+use Rattle.walk.proofs.Fields.{array-of}
 use Rattle.portal.proofs.Rows.{RH, RT, head-val}
 
 -- its fields' rows, and a record's tuple
-abbrev parts : ED.Declared → List denote.Struct.Field.Field
+abbrev parts : ED.Declared → List Field
 parts A = ED.field A ∷ T.the-field ∷ array-field B.the-field 64 ∷ []
 
 abbrev tuple : (A : ED.Declared) → A .D → Head → List Block → Denots (rows (parts A))
 tuple A a h t = (A .to a, (T.the-type .to h, (map (B.the-type .to) t, tt)))
 
 pub record Result : Type 2 where
+  -- the answer's enum and its laws
   pub Answer : ED.Declared
   pub laws : LL.FLaws (ED.field Answer)
   pub plain : Plainss (ED.variants Answer)
+  -- the struct: its type, its name in MIR, and its three parts, which make it
   pub Went : Type 0
   pub name : Sym
   pub answer : Went → Answer .D
@@ -54,7 +55,14 @@ pub record Result : Type 2 where
 
 module _ (R : Result) where
   abbrev struct : SD.Declared
-  struct = record { name = R .name; args = []; parts = parts (R .Answer); D = R .Went; to = λ r. tuple (R .Answer) (R .answer r) (R .head r) (R .table r); to-one = R .one }
+  struct = record {
+    name = R .name;
+    args = [];
+    parts = parts (R .Answer);
+    D = R .Went;
+    to = λ r. tuple (R .Answer) (R .answer r) (R .head r) (R .table r);
+    to-one = R .one;
+  }
 
   abbrev struct-laws : LL.Laws struct
   struct-laws = (R .laws, (T′.the-field-laws, (LL.array-laws B.the-field B′.the-field-laws 64, tt)))

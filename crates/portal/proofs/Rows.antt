@@ -12,7 +12,7 @@ use denote.Struct.Laws as LL
 use Rattle.line.specs.declared.Head.{Head}
 use Rattle.line.proofs.Head as T
 use Rattle.line.proofs.Head.Laws as T′
-pub use Rattle.table.proofs.Records.{RB, RT, table-makes, table-lawful}
+pub use Rattle.table.proofs.Records.{RB, RT, Shared, Lent, table-makes, table-lawful}
 
 abbrev pub RH : RattleType
 RH = T.the-row

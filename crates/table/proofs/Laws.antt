@@ -1,54 +1,48 @@
--- Laws of `laid`.
-use mathlib.Core.Path.{_≡_, refl, sym, _∙_, ap, subst}
+-- Laws of records laid over others: one turn of a loop that lays them, its end, and what comes of a table that is loaded
+-- and stored again.
+use mathlib.Core.Path.{_≡_, refl, sym, _∙_, ap}
 use mathlib.Core.Logic.{_⊎_, inl, inr}
-use Prim.Native.Nat.{ℕ, zero, suc, _+_, _<_, _≤_}
-use native.Mathlib.Nat.{not-suc-le-zero, le-of-suc-le-suc, add-zero, add-suc}
+use Prim.Native.Nat.{ℕ, suc, _+_, _<_, _≤_}
+use native.Mathlib.Nat.{not-suc-le-zero, le-of-suc-le-suc}
+use native.Mathlib.Numerals.{add-one}
 use native.Mathlib.Omega.{arith}
 use mathlib.Core.List.{List, [], _∷_}
-use lib.ListN.{length, getD, set, drop, take, replicate, length-set, drop-of-length-le}
+use lib.ListN.{length, getD, set, drop, take, replicate, drop-of-length-le}
+use lib.Seq.{drop-cons, set-out}
 use Rattle.line.specs.declared.Block.{Block}
 use Rattle.line.specs.Line.{unused}
 use Rattle.table.specs.Laid.{laid, loaded, stored}
 
-one-more : (i : ℕ) → i + 1 ≡ suc i
-one-more i = add-suc i zero ∙ ap suc (add-zero i)
-
--- past the end a store does nothing
-pub set-past : (t : List Block) (i : ℕ) (x : Block) → length t ≤ i → set t i x ≡ t
-set-past [] i x h = refl
-set-past (y ∷ t) zero x h = absurd (not-suc-le-zero h)
-set-past (y ∷ t) (suc i) x h = ap (λ (l : List Block). y ∷ l) (set-past t i x (le-of-suc-le-suc h))
-
-pub laid-past : (xs : List Block) (i : ℕ) (t : List Block) → length t ≤ i → laid xs i t ≡ t
+-- past the end nothing is laid
+laid-past : (xs : List Block) (i : ℕ) (t : List Block) → length t ≤ i → laid xs i t ≡ t
 laid-past [] i t h = refl
-laid-past (x ∷ xs) i t h = ap (λ (l : List Block). laid xs (suc i) l) (set-past t i x h) ∙ laid-past xs (suc i) t (omega (arith, h))
-
-drop-cons : (xs : List Block) (i : ℕ) (d : Block) → i < length xs → drop i xs ≡ getD xs i d ∷ drop (suc i) xs
-drop-cons [] i d h = absurd (not-suc-le-zero h)
-drop-cons (x ∷ xs) zero d h = refl
-drop-cons (x ∷ xs) (suc i) d h = drop-cons xs i d (le-of-suc-le-suc h)
+laid-past (x ∷ xs) i t h = ap (λ (l : List Block). laid xs (suc i) l) (set-out t i x h) ∙ laid-past xs (suc i) t (omega (arith, h))
 
 -- one turn: the record at i is laid, and those after it are left
-pub laid-next : (xs : List Block) (i : ℕ) (t : List Block) → i < length xs → laid (drop (i + 1) xs) (i + 1) (set t i (getD xs i unused)) ≡ laid (drop i xs) i t
-laid-next xs i t h = ap (λ (k : ℕ). laid (drop k xs) k (set t i (getD xs i unused))) (one-more i) ∙ ap (λ (l : List Block). laid l i t) (sym (drop-cons xs i unused h))
+pub laid-next : (xs : List Block) (i : ℕ) (t : List Block) → i < length xs
+    → laid (drop (i + 1) xs) (i + 1) (set t i (getD xs i unused)) ≡ laid (drop i xs) i t
+laid-next xs i t h =
+    ap (λ (k : ℕ). laid (drop k xs) k (set t i (getD xs i unused))) (add-one i) ∙ ap (λ (l : List Block). laid l i t) (sym (drop-cons xs i unused h))
 
 -- nothing is left to lay once all records are laid, or the table is full
 pub laid-done : (xs : List Block) (n : ℕ) (t : List Block) → (n ≡ length xs) ⊎ (n ≡ length t) → laid (drop n xs) n t ≡ t
 laid-done xs n t (inl e) = ap (λ (l : List Block). laid l n t) (drop-of-length-le xs {i = n} (omega (arith, e)))
 laid-done xs n t (inr e) = laid-past (drop n xs) n t (omega (arith, e))
 
--- ---- what a caller needs: of a table that is loaded and stored again, and of one that was changed in between
+-- ---- loaded and stored again
 laid-under : (xs : List Block) (i : ℕ) (y : Block) (t : List Block) → laid xs (suc i) (y ∷ t) ≡ y ∷ laid xs i t
 laid-under [] i y t = refl
 laid-under (x ∷ xs) i y t = laid-under xs (suc i) y (set t i x)
 
-pub laid-cons : (x : Block) (xs : List Block) (y : Block) (t : List Block) → laid (x ∷ xs) 0 (y ∷ t) ≡ x ∷ laid xs 0 t
+-- the first record is laid over the first, and the others over the others
+laid-cons : (x : Block) (xs : List Block) (y : Block) (t : List Block) → laid (x ∷ xs) 0 (y ∷ t) ≡ x ∷ laid xs 0 t
 laid-cons x xs y t = laid-under xs 0 x t
 
 over-back : (ys t : List Block) → laid (laid ys 0 t) 0 ys ≡ ys
 over-back [] t = laid-past t 0 [] (omega arith)
 over-back (y ∷ ys) [] = ap (λ (l : List Block). laid l 0 (y ∷ ys)) (laid-past (y ∷ ys) 0 [] (omega arith))
-over-back (y ∷ ys) (x ∷ t) = ap (λ (l : List Block). laid l 0 (y ∷ ys)) (laid-cons y ys x t) ∙ laid-cons y (laid ys 0 t) y ys ∙ ap (λ (l : List Block). y ∷ l) (over-back ys t)
+over-back (y ∷ ys) (x ∷ t) =
+    ap (λ (l : List Block). laid l 0 (y ∷ ys)) (laid-cons y ys x t) ∙ laid-cons y (laid ys 0 t) y ys ∙ ap (λ (l : List Block). y ∷ l) (over-back ys t)
 
 -- what was loaded and not changed is stored back as it was, at any length
 pub stored-loaded : (ys : List Block) → stored ys (loaded ys) ≡ ys

@@ -1,6 +1,6 @@
 -- How far a loop has come that lays records into a table, one after the other: `load` lays those that are lent into a
 -- table of 64, and `store` lays the 64 over those that are lent. Either stops at the shorter of the two.
-use mathlib.Core.Path.{_≡_, sym, _∙_, subst}
+use mathlib.Core.Path.{_≡_, sym, _∙_}
 use mathlib.Core.Logic.{_⊎_, inl, inr}
 use mathlib.Core.WellFounded.{WellFounded, InvImage·wf}
 use lib.WfN.{Nat·lt-wfRel}

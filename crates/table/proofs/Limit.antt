@@ -13,7 +13,7 @@ use prog.Routine.{Routine}
 use prog.Wp.{Heap, Env, Calls, Loops}
 use ghost.Atoms.{Atoms, sem}
 use contract.Monad.{Fun, fact}
-use types.Kit.{Given, Item, Post, Goal, runs, lands, Seq, ‵, raw, given, some, later, _$_, _∵_, !, qed, drop, use0, use1, join, pick, learn, fjoin, frame, await, regoal, done}
+use types.Kit.{Given, Item, Post, runs, lands, Seq, ‵, raw, given, some, later, _$_, _∵_, !, qed, drop, use0, use1, join, pick, learn, fjoin, frame, await, regoal, done}
 use types.Run.{Opds}
 use sound.WpLaws.{FmC}
 use denote.Laws.{Is}

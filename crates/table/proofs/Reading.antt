@@ -21,7 +21,7 @@ use denote.Laws.{Is}
 use denote.Plain.{uint-makes}
 use denote.Builtin.{usize}
 use denote.Ref.{RefT}
-use denote.Slice.{sliceVal, ShrSlice, slice-vals, shr-slice-copy}
+use denote.Slice.{sliceVal, slice-vals, shr-slice-copy}
 use denote.Steps.{owned, nothing}
 use denote.Triple.Spec.{tripleOf}
 use denote.Triple.Statement.{Contract, Triple}
@@ -31,7 +31,7 @@ use denote.Triple.Walked.{says}
 use Rattle.line.specs.declared.Block.{Block}
 use Rattle.line.specs.Line.{unused}
 use Rattle.walk.proofs.Called.{came-with}
-use Rattle.table.proofs.Records.{RB}
+use Rattle.table.proofs.Records.{RB, Shared}
 use Rattle.table.proofs.record_at as record-at
 use Rattle.table.proofs.record_at.Symbol.{name as #table·record-at}
 
@@ -46,20 +46,18 @@ module _ {M : Type 1} (𝓤 : URA M) (H : Heap 𝓤) (A : Atoms 𝓤) (W : Given
     abbrev pub to-read : Read .Ghost
     to-read = (((κ, tt), (q, tt), tt, (x, (i, tt)), (slice-vals x, (vint w64 i ∷ [], tt))), tt)
 
-    goes-read : i < 2 ^ 64 → i < length (x .now) → ent 𝓤 (sep 𝓤 (A .lft κ q) (sem 𝓤 H A (ShrSlice (named 0) κ RB .own x (slice-vals x)))) (Read .pre to-read)
+    goes-read : i < 2 ^ 64 → i < length (x .now) → ent 𝓤 (sep 𝓤 (A .lft κ q) (sem 𝓤 H A (Shared κ x))) (Read .pre to-read)
     goes-read fits within =
-        qed W (‵ (flft κ q) ∷ ‵ (ShrSlice (named 0) κ RB .own x (slice-vals x)) ∷ []) ∵ says ! within $
-        nothing ! $ move ! (1 ∷ 0 ∷ []) $ join ! $ frame ! $ nothing ! $ owned ! usize (Is usize) (uint-makes 𝓤 H A W w64) i _ (refl, fits) $ fjoin ! $ move ! (1 ∷ 0 ∷ []) $ fjoin ! $ done !
+        qed W (‵ (flft κ q) ∷ ‵ (Shared κ x) ∷ []) ∵ says ! within $ nothing ! $ move ! (1 ∷ 0 ∷ []) $ join ! $ frame ! $
+        nothing ! $ owned ! usize (Is usize) (uint-makes 𝓤 H A W w64) i _ (refl, fits) $ fjoin ! $ move ! (1 ∷ 0 ∷ []) $ fjoin ! $ done !
 
     module _ {K : Type 0} {Γ : List (Item 𝓤)} {E : Env 𝓤 H} {C : Calls 𝓤 H} {Λ : Loops 𝓤 H} {p : Post 𝓤 H} {xs : List Operand} {r : Place} {rest : Body} where
       pub calls-record-at : K → FmC 𝓤 H (W .laws) C → Triple 𝓤 (C #table·record-at) Read → i < 2 ^ 64 → i < length (x .now)
-          → Opds K W (raw (Read .pre to-read) ∷ ‵ (ShrSlice (named 0) κ RB .own x (slice-vals x)) ∷ Γ) E xs (sliceVal (x .ptr) (length (x .now)) ∷ vint w64 i ∷ [])
-          → ((w : Val) (d : Block) → Is RB d (w ∷ []) → d ≡ getD (x .now) i unused
-              → Seq K W (‵ (flft κ q) ∷ ‵ (ShrSlice (named 0) κ RB .own x (slice-vals x)) ∷ Γ) (lands C Λ E r w rest p))
-          → Seq K W (‵ (flft κ q) ∷ ‵ (ShrSlice (named 0) κ RB .own x (slice-vals x)) ∷ Γ) (runs C Λ E (seq (call #table·record-at xs r) rest) p)
+          → Opds K W (raw (Read .pre to-read) ∷ ‵ (Shared κ x) ∷ Γ) E xs (sliceVal (x .ptr) (length (x .now)) ∷ vint w64 i ∷ [])
+          → ((w : Val) (d : Block) → Is RB d (w ∷ []) → d ≡ getD (x .now) i unused → Seq K W (‵ (flft κ q) ∷ ‵ (Shared κ x) ∷ Γ) (lands C Λ E r w rest p))
+          → Seq K W (‵ (flft κ q) ∷ ‵ (Shared κ x) ∷ Γ) (runs C Λ E (seq (call #table·record-at xs r) rest) p)
       calls-record-at k fm known fits within os next =
-          move k (1 ∷ []) $ use1 W (‵ (ShrSlice (named 0) κ RB .own x (slice-vals x)) ⊛ ‵ (ShrSlice (named 0) κ RB .own x (slice-vals x)))
-          (shr-slice-copy 𝓤 H A W (named 0) κ RB .twice x (slice-vals x)) $ split k $ move k (2 ∷ 0 ∷ []) $
+          move k (1 ∷ []) $ use1 W (‵ (Shared κ x) ⊛ ‵ (Shared κ x)) (shr-slice-copy 𝓤 H A W (named 0) κ RB .twice x (slice-vals x)) $ split k $ move k (2 ∷ 0 ∷ []) $
           use2 W (raw (Read .pre to-read)) (goes-read fits within) $ calls-at k fm Read known to-read os (λ w.
           use1 W (later (some (λ (d : Block). given (Is RB d (w ∷ []) × (d ≡ getD (x .now) i unused)) (‵ (flft κ q) ⊛ ‵ ftrue))))
           (came-with 𝓤 H A W RB (sep 𝓤 (A .lft κ q) (emp 𝓤)) (λ d. d ≡ getD (x .now) i unused) _ read-said w) $

@@ -1,4 +1,5 @@
--- Records written over others, from a place on. What would lie past the end is left out.
+-- Records written over others, from a place on; what would lie past the end is left out. `load` and `store` are the two
+-- ways of that: the lent records over 64 unused ones, and 64 records over the lent ones.
 use Prim.Native.Nat.{ℕ, suc}
 use mathlib.Core.List.{List, [], _∷_}
 use lib.ListN.{set, replicate}

@@ -1,4 +1,6 @@
-// A table of records, lent as a slice.
+// The block table, as the portal lends it: a slice of records in block order. `count`, `record_at` and `replace` are the
+// thin functions that read or replace a record; `load` and `store` go over the table with them, between the lent slice and
+// the table of 64 records that the engine takes by value.
 ghost use mathlib.Core.Path.{_≡_};
 ghost use mathlib.Core.Logic.{_⊎_};
 ghost use Prim.Native.Nat.{_<_, _+_, _≤_};
@@ -14,7 +16,7 @@ pub fn count(table: &[Block]) -> usize
     table.len()
 }
 
-// One record.
+// One record is read.
 pub fn record_at(table: &[Block], i: usize) -> Block
     requires { ⌜ i < length (now table) ⌝ }
     ensures { λ r. ⌜ r ≡ getD (now (table .entry)) i unused ⌝ }
@@ -30,7 +32,7 @@ pub fn replace(table: &mut [Block], i: usize, b: Block)
     table[i] = b;
 }
 
-// The covered functions that `load` and `store` call.
+// A table of 64 records of unused blocks.
 pub fn blank() -> [Block; 64]
     ensures { λ r. ⌜ r ≡ replicate 64 unused ⌝ }
 {
@@ -42,13 +44,14 @@ pub fn blank() -> [Block; 64]
     }; 64]
 }
 
+// How many records a table of 64 has room for.
 pub fn at_most_64(n: usize) -> usize
     ensures { λ r. ⌜ (r ≤ n) × (r ≤ 64) × ((r ≡ n) ⊎ (r ≡ 64)) ⌝ }
 {
     if n < 64 { n } else { 64 }
 }
 
-// The records, copied into a table of fixed size that is blank behind them.
+// The lent records, in a table of 64, with records of unused blocks behind them. Those past 64 are left out.
 pub fn load(table: &[Block]) -> [Block; 64]
     ensures { λ r. ⌜ r ≡ loaded (now (table .entry)) ⌝ }
 {
@@ -62,7 +65,7 @@ pub fn load(table: &[Block]) -> [Block; 64]
     t
 }
 
-// The records of the fixed table, copied back over those that are lent.
+// The records of the table of 64, over those that are lent. Lent ones past 64 stay.
 pub fn store(table: &mut [Block], t: [Block; 64])
     ensures { λ _. ⌜ now (table .exit) ≡ stored (now (table .entry)) t ⌝ }
 {

@@ -1,9 +1,5 @@
--- A `&κ mut [T]` that is lent again for a lifetime κ′ of a call, and comes back: `Denote/Lend.antt`'s `lends-again` and `comes-back`, of a slice. It says nothing of the crate, and can be copied as it stands.
---     LentAgain        what the holder keeps while the slice is lent again under the name γ₁: the lender's part at κ′, and its own borrow at κ, open, with both halves of its ghost variable
---     lends-again      own (the `&κ mut [T]` ((b, o), γ, ys)) ∗ [κ]_q  ⊢ ⇛ ∃ γ₁. own (the `&κ′ mut [T]` ((b, o), γ₁, ys)) ∗ LentAgain γ₁
---     comes-back       given `Room` and that zs is as long as ys:  [†κ′] ∗ LentAgain γ₁ ∗ finally γ₁ zs  ⊢ ⇛ (own (the `&κ mut [T]` ((b, o), γ, zs)) ∗ [κ]_q)
---     SharedAgain, shares-again, shared-back       the same where it is lent as a `&κ′ [T]`, which comes back at the list that was lent
--- Assumes `Given`.
+-- A `&mut [T]` that is lent again for the time of a call, and comes back: as a `&mut [T]`, with other elements in it, or as
+-- a `&[T]`, as it was. κ is its own lifetime, and κ′ that of the call.
 use mathlib.Core.Path.{_≡_, refl, sym, ap, subst}
 use Prim.Native.Nat.{ℕ}
 use mathlib.Core.List.{List, [], _∷_}
@@ -33,50 +29,64 @@ abbrev pub at-list : (R : RattleType) → ℕ → ℕ → GName → List (R .Den
 at-list R b o δ ys = record { ptr = (b, o); name = δ; now = ys }
 
 module _ (R : RattleType) (κ κ′ : Lft) (q : Share) (γ : GName) (b o : ℕ) where
+  -- what its holder has of its own borrow meanwhile: it is open, with both halves of its ghost variable
+  abbrev Own : List (R .Denot) → Fml
+  Own ys = fsep (fobor κ q (Held R (length ys) b o γ)) (fsep (fobs γ (codedHoleys R .code (heres R ys))) (fauth γ (codedHoleys R .code (heres R ys))))
+
+  -- ---- as a `&mut [T]`, under the name γ₁
   abbrev pub LentAgain : GName → List (R .Denot) → Fml
-  LentAgain γ₁ ys = fsep (flent κ′ (Held R (length ys) b o γ₁)) (fsep (fobor κ q (Held R (length ys) b o γ)) (fsep (fobs γ (codedHoleys R .code (heres R ys))) (fauth γ (codedHoleys R .code (heres R ys)))))
+  LentAgain γ₁ ys = fsep (flent κ′ (Held R (length ys) b o γ₁)) (Own ys)
 
   module _ {M : Type 1} (𝓤 : URA M) (H : Heap 𝓤) (A : Atoms 𝓤) (W : Given 𝓤 H A) (ℓ ℓ′ : Lifetime) (ys : List (R .Denot)) where
     abbrev vals : List Val
     vals = sliceVal (b, o) (length ys) ∷ []
 
+    -- it is lent
     pub lends-again : ent 𝓤 (sep 𝓤 (sem 𝓤 H A (MutSlice ℓ κ R .own (at-list R b o γ ys) vals)) (A .lft κ q))
         (H .⇛ (ex 𝓤 (λ (γ₁ : GName). sep 𝓤 (sem 𝓤 H A (MutSlice ℓ′ κ′ R .own (at-list R b o γ₁ ys) vals)) (sem 𝓤 H A (LentAgain γ₁ ys)))))
     lends-again =
-        qed W (‵ (MutSlice ℓ κ R .own (at-list R b o γ ys) vals) ∷ ‵ (flft κ q) ∷ []) ∵ updating ! $ fsplit ! $ pureL ! (at-slice R (at-list R b o γ ys) vals) (λ p. fsplit ! $ opens-slice ! tt R ys b o $
-        use1 W (‵ (cells (mem R) ys b o)) (whole-in 𝓤 H A W R ys b o) $
-        use1 W (later (some (λ (γ₁ : GName). ‵ (MutSlice ℓ′ κ′ R .own (at-list R b o γ₁ ys) vals) ⊛ ‵ (flent κ′ (Held R (length ys) b o γ₁))))) (lends-slice 𝓤 H A W R ℓ′ κ′ ys b o (p .1)) $ await ! tt $ pick ! (λ γ₁. split ! $
+        qed W (‵ (MutSlice ℓ κ R .own (at-list R b o γ ys) vals) ∷ ‵ (flft κ q) ∷ []) ∵ updating ! $
+        fsplit ! $ pureL ! (at-slice R (at-list R b o γ ys) vals) (λ p. fsplit ! $ opens-slice ! tt R ys b o $ use1 W (‵ (cells (mem R) ys b o)) (whole-in 𝓤 H A W R ys b o) $
+        use1 W (later (some (λ (γ₁ : GName). ‵ (MutSlice ℓ′ κ′ R .own (at-list R b o γ₁ ys) vals) ⊛ ‵ (flent κ′ (Held R (length ys) b o γ₁)))))
+        (lends-slice 𝓤 H A W R ℓ′ κ′ ys b o (p .1)) $ await ! tt $ pick ! (λ γ₁. split ! $
         -- [the new slice; the lender's part at κ′; the open borrow at κ; obs γ; auth γ]
         at-once ! $ show ! (λ (γ′ : GName). sep 𝓤 (sem 𝓤 H A (MutSlice ℓ′ κ′ R .own (at-list R b o γ′ ys) vals)) (sem 𝓤 H A (LentAgain γ′ ys))) γ₁ $ frame ! $
         move ! (2 ∷ 3 ∷ []) $ fjoin ! $ move ! (2 ∷ 0 ∷ []) $ fjoin ! $ move ! (1 ∷ 0 ∷ []) $ fjoin ! $ done !))
 
+    -- κ′ has ended, and zs are there, as many as were lent: it comes back
     pub comes-back : (γ₁ : GName) (zs : List (R .Denot)) → Room R (length ys) → length zs ≡ length ys
-        → ent 𝓤 (sep 𝓤 (A .dead κ′) (sep 𝓤 (sem 𝓤 H A (LentAgain γ₁ ys)) (sem 𝓤 H A (finally R γ₁ zs)))) (H .⇛ (sep 𝓤 (sem 𝓤 H A (MutSlice ℓ κ R .own (at-list R b o γ zs) vals)) (A .lft κ q)))
+        → ent 𝓤 (sep 𝓤 (A .dead κ′) (sep 𝓤 (sem 𝓤 H A (LentAgain γ₁ ys)) (sem 𝓤 H A (finally R γ₁ zs))))
+        (H .⇛ (sep 𝓤 (sem 𝓤 H A (MutSlice ℓ κ R .own (at-list R b o γ zs) vals)) (A .lft κ q)))
     comes-back γ₁ zs room e =
         qed W (‵ (fdead κ′) ∷ ‵ (LentAgain γ₁ ys) ∷ ‵ (finally R γ₁ zs) ∷ []) ∵ updating ! $ move ! (1 ∷ []) $ fsplit ! $ move ! (2 ∷ 0 ∷ 3 ∷ []) $
-        use3 W (later (‵ (Arr (mem R) (length ys) .lies zs b o))) (slice-back 𝓤 H A W R κ′ γ₁ zs (length ys) b o) $ await ! tt $ fsplit ! $ drop ! $ use1 W (‵ (row R fullShare zs b o)) (whole-out 𝓤 H A W R zs b o) $
+        use3 W (later (‵ (Arr (mem R) (length ys) .lies zs b o))) (slice-back 𝓤 H A W R κ′ γ₁ zs (length ys) b o) $ await ! tt $ fsplit ! $ drop ! $
+        use1 W (‵ (row R fullShare zs b o)) (whole-out 𝓤 H A W R zs b o) $
         move ! (1 ∷ []) $ fsplit ! $ move ! (1 ∷ []) $ fsplit ! $ move ! (3 ∷ 2 ∷ 0 ∷ 1 ∷ []) $ closes-slice ! tt R ys zs e b o $ at-once ! $
         fjoin ! $ pureI ! (at-slice R (at-list R b o γ zs) vals) (tt, (tt, tt)) (ap (λ (m : ℕ). sliceVal (b, o) m ∷ []) (sym e), subst (Room R) (sym e) room) $ fjoin ! $ done !
 
-  -- ---- as a `&κ′ [T]`
+  -- ---- as a `&[T]`
   abbrev pub SharedAgain : List (R .Denot) → Fml
-  SharedAgain ys = fsep (flent κ′ (arr-parts (shares R) (length ys) .part fullShare ys b o)) (fsep (fobor κ q (Held R (length ys) b o γ)) (fsep (fobs γ (codedHoleys R .code (heres R ys))) (fauth γ (codedHoleys R .code (heres R ys)))))
+  SharedAgain ys = fsep (flent κ′ (arr-parts (shares R) (length ys) .part fullShare ys b o)) (Own ys)
 
   module _ {M : Type 1} (𝓤 : URA M) (H : Heap 𝓤) (A : Atoms 𝓤) (W : Given 𝓤 H A) (ℓ ℓ′ : Lifetime) (ys : List (R .Denot)) where
     abbrev at-vals : List Val
     at-vals = sliceVal (b, o) (length ys) ∷ []
 
+    -- it is lent
     pub shares-again : ent 𝓤 (sep 𝓤 (sem 𝓤 H A (MutSlice ℓ κ R .own (at-list R b o γ ys) at-vals)) (A .lft κ q))
         (H .⇛ (ex 𝓤 (λ (γ₁ : GName). sep 𝓤 (sem 𝓤 H A (ShrSlice ℓ′ κ′ R .own (at-list R b o γ₁ ys) at-vals)) (sem 𝓤 H A (SharedAgain ys)))))
     shares-again =
-        qed W (‵ (MutSlice ℓ κ R .own (at-list R b o γ ys) at-vals) ∷ ‵ (flft κ q) ∷ []) ∵ updating ! $ fsplit ! $ pureL ! (at-slice R (at-list R b o γ ys) at-vals) (λ p. fsplit ! $ opens-slice ! tt R ys b o $
-        feqI ! ℕ (length ys) (length ys) refl $ fjoin ! $
-        use1 W (later (some (λ (γ₁ : GName). ‵ (ShrSlice ℓ′ κ′ R .own (at-list R b o γ₁ ys) at-vals) ⊛ ‵ (flent κ′ (arr-parts (shares R) (length ys) .part fullShare ys b o))))) (lends-shr-slice 𝓤 H A W R ℓ′ κ′ fullShare ys b o (p .1)) $ await ! tt $ pick ! (λ γ₁. split ! $
+        qed W (‵ (MutSlice ℓ κ R .own (at-list R b o γ ys) at-vals) ∷ ‵ (flft κ q) ∷ []) ∵ updating ! $
+        fsplit ! $ pureL ! (at-slice R (at-list R b o γ ys) at-vals) (λ p. fsplit ! $ opens-slice ! tt R ys b o $ feqI ! ℕ (length ys) (length ys) refl $ fjoin ! $
+        use1 W (later (some (λ (γ₁ : GName). ‵ (ShrSlice ℓ′ κ′ R .own (at-list R b o γ₁ ys) at-vals) ⊛ ‵ (flent κ′ (arr-parts (shares R) (length ys) .part fullShare ys b o)))))
+        (lends-shr-slice 𝓤 H A W R ℓ′ κ′ fullShare ys b o (p .1)) $ await ! tt $ pick ! (λ γ₁. split ! $
         -- [the new slice; the lender's part at κ′; the open borrow at κ; obs γ; auth γ]
         at-once ! $ show ! (λ (γ′ : GName). sep 𝓤 (sem 𝓤 H A (ShrSlice ℓ′ κ′ R .own (at-list R b o γ′ ys) at-vals)) (sem 𝓤 H A (SharedAgain ys))) γ₁ $ frame ! $
         move ! (2 ∷ 3 ∷ []) $ fjoin ! $ move ! (2 ∷ 0 ∷ []) $ fjoin ! $ move ! (1 ∷ 0 ∷ []) $ fjoin ! $ done !))
 
-    pub shared-back : Room R (length ys) → ent 𝓤 (sep 𝓤 (A .dead κ′) (sem 𝓤 H A (SharedAgain ys))) (H .⇛ (sep 𝓤 (sem 𝓤 H A (MutSlice ℓ κ R .own (at-list R b o γ ys) at-vals)) (A .lft κ q)))
+    -- κ′ has ended: it comes back
+    pub shared-back : Room R (length ys) → ent 𝓤 (sep 𝓤 (A .dead κ′) (sem 𝓤 H A (SharedAgain ys)))
+        (H .⇛ (sep 𝓤 (sem 𝓤 H A (MutSlice ℓ κ R .own (at-list R b o γ ys) at-vals)) (A .lft κ q)))
     shared-back room =
         qed W (‵ (fdead κ′) ∷ ‵ (SharedAgain ys) ∷ []) ∵ updating ! $ move ! (1 ∷ []) $ fsplit ! $ move ! (2 ∷ 0 ∷ []) $ lent-back ! tt $ fsplit ! $ drop ! $
         move ! (1 ∷ []) $ fsplit ! $ move ! (1 ∷ []) $ fsplit ! $ move ! (3 ∷ 2 ∷ 0 ∷ 1 ∷ []) $ closes-slice ! tt R ys ys refl b o $ at-once ! $

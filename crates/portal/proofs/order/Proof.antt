@@ -38,11 +38,15 @@ module _ {M : Type 1} (𝓤 : URA M) (H : Heap 𝓤) (A : Atoms 𝓤) (at-mem : 
   promise κs a r end = f.clauses 𝓤 H A at-mem run κs a .ensures tt r end
 
   keeps : Keeps ordering 𝓤 promise
-  keeps κs a r fs said = factI 𝓤 _ (emp 𝓤) (ordered (a .0 .now) (a .1 .0 .now) (a .1 .1 .0 .now) fs (a .1 .1 .1 .0) (a .1 .1 .1 .1 .0) r said)
+  keeps κs a r fs said =
+      factI 𝓤 _ (emp 𝓤) (ordered (a .0 .now) (a .1 .0 .now) (a .1 .1 .0 .now) fs (a .1 .1 .1 .0) (a .1 .1 .1 .1 .0) r said)
 
 pub order-spec : {M : Type 1} → statement M
 unfolding code.routine
 order-spec 𝓤 H 𝓜 𝓖 𝓡 =
-    entered 𝓤 H (tripleOf 𝓤 H (𝓖 .A) f.signature (f.spec 𝓤 H (𝓖 .A) (𝓜 .mem) (𝓡 .run))) (tables 𝓤 H 𝓜 𝓡 code.env .C) (tables 𝓤 H 𝓜 𝓡 code.env .Λ) name code.function (code.unfolded 𝓤 H 𝓜 𝓡)
-    (lends ordering 𝓤 (promise 𝓤 H (𝓖 .A) (𝓜 .mem) (𝓡 .run)) (keeps 𝓤 H (𝓖 .A) (𝓜 .mem) (𝓡 .run)) H 𝓜 𝓖 𝓡 code.env code.calls-table·load code.calls-table·store
-    (cited 𝓤 H (tripleOf 𝓤 H (𝓖 .A) core.signature (core.spec 𝓤 H (𝓖 .A) (𝓜 .mem) (𝓡 .run))) 𝓜 𝓡 code.env core-def.name core-def.routine code.calls-engine·step·order (core-thm.met 𝓤 H 𝓜 𝓖 𝓡)))
+    let A = 𝓖 .A in let mem = 𝓜 .mem in let run = 𝓡 .run in
+    entered 𝓤 H (tripleOf 𝓤 H A f.signature (f.spec 𝓤 H A mem run)) (tables 𝓤 H 𝓜 𝓡 code.env .C) (tables 𝓤 H 𝓜 𝓡 code.env .Λ)
+    name code.function (code.unfolded 𝓤 H 𝓜 𝓡)
+    (lends ordering 𝓤 (promise 𝓤 H A mem run) (keeps 𝓤 H A mem run) H 𝓜 𝓖 𝓡 code.env code.calls-table·load code.calls-table·store
+    (cited 𝓤 H (tripleOf 𝓤 H A core.signature (core.spec 𝓤 H A mem run)) 𝓜 𝓡 code.env
+    core-def.name core-def.routine code.calls-engine·step·order (core-thm.met 𝓤 H 𝓜 𝓖 𝓡)))

@@ -2,7 +2,6 @@
 -- the loop to after it (`Rows`); a turn reads record i by `record_at`, to which the slice is lent as it is, and stores it
 -- to record i of that row.
 use mathlib.Core.Path.{_≡_, refl, sym, ap, subst}
-use mathlib.Core.Bool.{not}
 use Prim.Native.Nat.{ℕ, _<_, _^_, _*_, _+_, zero-le}
 use native.Mathlib.Omega.{arith}
 use mathlib.Core.List.{List, [], _∷_}
@@ -52,7 +51,7 @@ use Rattle.walk.proofs.Rows.{row-out, row-back}
 use Rattle.table.proofs.Laying.{Laying, Nearer, nearer-wf, next, nearer, finished}
 use Rattle.table.proofs.Limit.{Least, Most, calls-most}
 use Rattle.table.proofs.Reading.{Read, calls-record-at}
-use Rattle.table.proofs.Records.{RB, RT, record-vals, record-tells, bytes-each, record-makes, record-lawful, table-val, table-makes, table-lawful}
+use Rattle.table.proofs.Records.{RB, RT, Shared, record-vals, record-tells, bytes-each, record-makes, record-lawful, table-val, table-makes, table-lawful}
 use Rattle.table.proofs.blank as blank
 use Rattle.table.proofs.blank.Symbol as blank-def
 use Rattle.table.proofs.blank.Met as blank-thm
@@ -92,10 +91,13 @@ module _ {M : Type 1} (𝓤 : URA M) (H : Heap 𝓤) (A : Atoms 𝓤) (W : Given
     exits : (t : List Block) (w : Val) → Is RT t (w ∷ []) → t ≡ loaded ys → ent 𝓤 (⋆ 𝓤 H A (‵ (flft κ q) ∷ [])) (Exit w)
     exits t w is e =
         qed W (‵ (flft κ q) ∷ []) ∵
-        suffices ! _ (ends-at 𝓤 H A f.ended stayed (f.clauses 𝓤 H A at-mem run) W (((κ, tt), (q, tt), tt, (table, tt), (slice-vals table, tt)), tt) w t (tt, tt) (tt, tt)) $
-        says ! e $ nothing ! $ move ! (1 ∷ 0 ∷ []) $ join ! $ frame ! $ nothing ! $ nothing ! $ fjoin ! $ frame ! $ owned ! RT (Is RT) (table-makes 𝓤 H A W) t _ is $ done !
+        suffices ! _ (ends-at 𝓤 H A f.ended stayed (f.clauses 𝓤 H A at-mem run) W (((κ, tt), (q, tt), tt, (table, tt), (slice-vals table, tt)), tt) w t (tt, tt)
+        (tt, tt)) $
+        says ! e $ nothing ! $ move ! (1 ∷ 0 ∷ []) $ join ! $ frame ! $ nothing ! $ nothing ! $ fjoin ! $ frame ! $ owned ! RT (Is RT) (table-makes 𝓤 H A W) t _ is $
+        done !
 
-    module _ (𝓣 : Tables 𝓤 H) (fm : FmC 𝓤 H (W .laws) (𝓣 .C)) (known-blank : Triple 𝓤 (𝓣 .C blank-def.name) Blank) (known-most : Triple 𝓤 (𝓣 .C most-def.name) (Most 𝓤 H A W at-mem run))
+    module _ (𝓣 : Tables 𝓤 H) (fm : FmC 𝓤 H (W .laws) (𝓣 .C)) (known-blank : Triple 𝓤 (𝓣 .C blank-def.name) Blank)
+        (known-most : Triple 𝓤 (𝓣 .C most-def.name) (Most 𝓤 H A W at-mem run))
         (known-read : Triple 𝓤 (𝓣 .C read-def.name) (Read 𝓤 H A W at-mem run)) (room : Room RB (length ys)) where
       -- ---- the loop: n records are laid, and the local table is at l₂
       module _ (n : ℕ) (least : Least (length ys) n) (l₀ l₁ l₂ l₃ l₄ l₅ l₆ l₇ l₈ l₉ l₁₀ l₁₁ : ℕ) where
@@ -115,14 +117,18 @@ module _ {M : Type 1} (𝓤 : URA M) (H : Heap 𝓤) (A : Atoms 𝓤) (W : Given
         abbrev rest : Body
         rest = after 6 (code.function .body)
 
-        -- before a turn: [0 the local table's row; 1 the token; 2 table; local i at 25 − 2i, and one more for _2's cell, which is away]
+        -- before a turn: [0 the local table's row; 1 the token; 2 table; local i at 25 − 2i, and below _2, whose cell
+        -- is away, at 24 − 2i]
         abbrev At : Turn → List (Item 𝓤)
         At s =
-            ‵ (row RB fullShare (s .t) l₂ 0) ∷ ‵ (flft κ q) ∷ ‵ (ShrSlice (named 0) κ RB .own table (slice-vals table))
+            ‵ (row RB fullShare (s .t) l₂ 0) ∷ ‵ (flft κ q) ∷ ‵ (Shared κ table)
             ∷ ‵ (froom (ty 11) l₁₁ 0) ∷ ‵ (fdies (ty 11) l₁₁) ∷ ‵ (froom (ty 10) l₁₀ 0) ∷ ‵ (fdies (ty 10) l₁₀) ∷ ‵ (froom (ty 9) l₉ 0) ∷ ‵ (fdies (ty 9) l₉)
-            ∷ ‵ (froom (ty 8) l₈ 0) ∷ ‵ (fdies (ty 8) l₈) ∷ ‵ (froom (ty 7) l₇ 0) ∷ ‵ (fdies (ty 7) l₇) ∷ ‵ (fat fullShare (ty 6) l₆ 0 (vint w64 (length ys))) ∷ ‵ (fdies (ty 6) l₆)
-            ∷ ‵ (froom (ty 5) l₅ 0) ∷ ‵ (fdies (ty 5) l₅) ∷ ‵ (fat fullShare (ty 4) l₄ 0 (vint w64 (s .i))) ∷ ‵ (fdies (ty 4) l₄) ∷ ‵ (fat fullShare (ty 3) l₃ 0 (vint w64 n)) ∷ ‵ (fdies (ty 3) l₃)
-            ∷ ‵ (fdies (ty 2) l₂) ∷ ‵ (fat fullShare (ty 1) l₁ 0 (sliceVal (b, o) (length ys))) ∷ ‵ (fdies (ty 1) l₁) ∷ ‵ (froom (ty 0) l₀ 0) ∷ ‵ (fdies (ty 0) l₀) ∷ []
+            ∷ ‵ (froom (ty 8) l₈ 0) ∷ ‵ (fdies (ty 8) l₈) ∷ ‵ (froom (ty 7) l₇ 0) ∷ ‵ (fdies (ty 7) l₇) ∷ ‵ (fat fullShare (ty 6) l₆ 0 (vint w64 (length ys)))
+            ∷ ‵ (fdies (ty 6) l₆)
+            ∷ ‵ (froom (ty 5) l₅ 0) ∷ ‵ (fdies (ty 5) l₅) ∷ ‵ (fat fullShare (ty 4) l₄ 0 (vint w64 (s .i))) ∷ ‵ (fdies (ty 4) l₄)
+            ∷ ‵ (fat fullShare (ty 3) l₃ 0 (vint w64 n)) ∷ ‵ (fdies (ty 3) l₃)
+            ∷ ‵ (fdies (ty 2) l₂) ∷ ‵ (fat fullShare (ty 1) l₁ 0 (sliceVal (b, o) (length ys))) ∷ ‵ (fdies (ty 1) l₁) ∷ ‵ (froom (ty 0) l₀ 0) ∷ ‵ (fdies (ty 0) l₀)
+            ∷ []
 
         -- a turn ends nearer to n, or the loop is left and the rest runs
         abbrev Turned : Turn → Out → SProp 𝓤
@@ -133,7 +139,8 @@ module _ {M : Type 1} (𝓤 : URA M) (H : Heap 𝓤) (A : Atoms 𝓤) (W : Given
         turns : (s : Turn) → Sq W (At s) (runs (𝓣 .C) (𝓣 .Λ) En body (anyQ (Turned s)))
         unfolding afterTurn
         turns s =
-            assigns ! (bin ! (load ! (from ! (stop !)) (look ! 17 refl)) (load ! (from ! (stop !)) (look ! 19 refl)) tt) (from ! (stop !)) (init ! 11 refl (tt, tt)) $
+            assigns ! (bin ! (load ! (from ! (stop !)) (look ! 17 refl)) (load ! (from ! (stop !)) (look ! 19 refl)) tt) (from ! (stop !))
+            (init ! 11 refl (tt, tt)) $
             first ! $ branches ! (load ! (from ! (stop !)) (look ! 11 refl))
             (λ less. skips ! $ exec ! (𝓣 .C) (𝓣 .Λ) En (after 2 body) (anyQ (Turned s)) $
             -- the record is read
@@ -141,15 +148,19 @@ module _ {M : Type 1} (𝓤 : URA M) (H : Heap 𝓤) (A : Atoms 𝓤) (W : Given
             (and-then ! (load ! (from ! (stop !)) (look ! 22 refl)) (and-then ! (load ! (from ! (stop !)) (look ! 17 refl)) (no-more !))) (λ w d is e.
             land ! (from ! (stop !)) (init ! 9 refl (record-lawful 𝓤 H A W .typed d _ is .0)) $
             -- and stored
-            assigns ! (bin ! (load ! (from ! (stop !)) (look ! 17 refl)) (lit ! tt) (record { fits = bytes less })) (from ! (stop !)) (init ! 7 refl (tt, record { fits = bytes less })) $
+            assigns ! (bin ! (load ! (from ! (stop !)) (look ! 17 refl)) (lit ! tt) (record { fits = bytes less })) (from ! (stop !))
+            (init ! 7 refl (tt, record { fits = bytes less })) $
             assigns ! (addr ! (from ! (stop !))) (from ! (stop !)) (init ! 5 refl (tt, tt)) $
             assigns ! (bin ! (load ! (from ! (stop !)) (look ! 5 refl)) (load ! (from ! (stop !)) (look ! 7 refl)) tt) (from ! (stop !)) (init ! 3 refl (tt, tt)) $
             rewrite ! 3 (λ (p : ℕ). ‵ (fat fullShare tyPtr l₁₁ 0 (vptr l₂ p))) (sym (place-is bytes-each 0 (s .i))) refl $
             move ! (2 ∷ []) $ elem-out ! RB (Is RB) (shows 𝓤 H A RB) record-vals record-tells fullShare (s .t) (s .i) unused l₂ 0 (in-table less) (λ _.
-            assigns ! (of-opd ! (load ! (from ! (stop !)) (look ! 11 refl))) (from ! (hop ! (look ! 5 refl) (stop !))) (store-raw ! 0 refl (record-lawful 𝓤 H A W .typed d _ is .0)) $
-            move ! (1 ∷ []) $ drop ! $ owned ! RB (Is RB) (record-makes 𝓤 H A W) d _ is $ move ! (1 ∷ 0 ∷ []) $ elem-put ! RB fullShare (s .t) (s .i) d (w ∷ []) l₂ 0 (in-table less) $
+            assigns ! (of-opd ! (load ! (from ! (stop !)) (look ! 11 refl))) (from ! (hop ! (look ! 5 refl) (stop !)))
+            (store-raw ! 0 refl (record-lawful 𝓤 H A W .typed d _ is .0)) $
+            move ! (1 ∷ []) $ drop ! $ owned ! RB (Is RB) (record-makes 𝓤 H A W) d _ is $ move ! (1 ∷ 0 ∷ []) $
+            elem-put ! RB fullShare (s .t) (s .i) d (w ∷ []) l₂ 0 (in-table less) $
             rewrite ! 0 (λ (c : Block). ‵ (row RB fullShare (set (s .t) (s .i) c) l₂ 0)) e refl $
-            assigns-last ! (bin ! (load ! (from ! (stop !)) (look ! 17 refl)) (lit ! tt) (record { fits = next-fits less })) (from ! (stop !)) (store ! 17 refl (tt, record { fits = next-fits less })) $
+            assigns-last ! (bin ! (load ! (from ! (stop !)) (look ! 17 refl)) (lit ! tt) (record { fits = next-fits less })) (from ! (stop !))
+            (store ! 17 refl (tt, record { fits = next-fits less })) $
             forget ! 11 refl $ forget ! 9 refl $ forget ! 7 refl $ forget ! 5 refl $ forget ! 3 refl $
             again ! (Nearer ys 64 n (loaded ys)) At s (next ys 64 n (loaded ys) (least .0) s (under less)) (nearer ys 64 n (loaded ys) (least .0) s (under less)))))
             (λ over. jumps ! $ exec ! (𝓣 .C) (𝓣 .Λ) En rest (atRet En Exit) $
@@ -186,32 +197,42 @@ module _ {M : Type 1} (𝓤 : URA M) (H : Heap 𝓤) (A : Atoms 𝓤) (W : Given
       walk : ent 𝓤 (onEntry 𝓤 H A f.signature (κ, tt) (q, tt) (table, tt) (slice-vals table, tt)) (WpFn 𝓤 H (𝓣 .C) (𝓣 .Λ) code.function (slice-vals table) Exit)
       unfolding afterTurn
       walk =
-          qed W ((‵ (flft κ q) ⊛ ‵ ftrue) ∷ ‵ (owns (ShrSlice (named 0) κ RB ∷ []) (table, tt) (slice-vals table, tt)) ∷ []) ∵ enter ! (𝓣 .C) (𝓣 .Λ) code.function (slice-vals table) _ $
-          alloc1 ! (λ l₀. alloc1 ! (λ l₁. alloc1 ! (λ l₂. alloc1 ! (λ l₃. alloc1 ! (λ l₄. alloc1 ! (λ l₅. alloc1 ! (λ l₆. alloc1 ! (λ l₇. alloc1 ! (λ l₈. alloc1 ! (λ l₉. alloc1 ! (λ l₁₀. alloc1 ! (λ l₁₁. alloc0 ! $ params1 ! $
+          qed W ((‵ (flft κ q) ⊛ ‵ ftrue) ∷ ‵ (owns (ShrSlice (named 0) κ RB ∷ []) (table, tt) (slice-vals table, tt)) ∷ []) ∵
+          enter ! (𝓣 .C) (𝓣 .Λ) code.function (slice-vals table) _ $
+          alloc1 ! (λ l₀. alloc1 ! (λ l₁. alloc1 ! (λ l₂. alloc1 ! (λ l₃.
+          alloc1 ! (λ l₄. alloc1 ! (λ l₅. alloc1 ! (λ l₆. alloc1 ! (λ l₇. alloc1 ! (λ l₈. alloc1 ! (λ l₉. alloc1 ! (λ l₁₀. alloc1 ! (λ l₁₁. alloc0 ! $ params1 ! $
           pass1 ! (init ! 20 refl (tt, (tt, (record { fits = room .0 }, tt)))) $ pass0 ! $
           -- [local i at 22 − 2i; 24 the token; 25 what table owns]
           use0 W (raw (Blank .pre to-blank)) goes-blank $ calls-at ! fm Blank known-blank to-blank (no-more !) (λ w.
-          use1 W (later (some (λ (t : List Block). given (Is RT t (w ∷ []) × (t ≡ replicate 64 unused)) (‵ ftrue)))) (came 𝓤 H A W RT (λ t. t ≡ replicate 64 unused) _ blank-said w) $
+          use1 W (later (some (λ (t : List Block). given (Is RT t (w ∷ []) × (t ≡ replicate 64 unused)) (‵ ftrue))))
+          (came 𝓤 H A W RT (λ t. t ≡ replicate 64 unused) _ blank-said w) $
           await ! tt $ pick ! (λ t. learn ! (λ is. drop ! $
           land ! (from ! (stop !)) (init ! 12 refl (table-lawful 𝓤 H A W .typed t _ (is .0) .0)) $
-          assigns ! (of-opd ! (load ! (from ! (stop !)) (look ! 12 refl))) (from ! (stop !)) (init ! 18 refl (table-lawful 𝓤 H A W .typed t _ (is .0) .0)) $ forget ! 12 refl $
-          assigns ! (of-opd ! (load ! (from ! (fld ! refl (stop !))) (look-in ! 20 (sub ! 1 refl (whole !))))) (from ! (stop !)) (init ! 10 refl (tt, record { fits = room .0 })) $
+          assigns ! (of-opd ! (load ! (from ! (stop !)) (look ! 12 refl))) (from ! (stop !)) (init ! 18 refl (table-lawful 𝓤 H A W .typed t _ (is .0) .0)) $
+          forget ! 12 refl $
+          assigns ! (of-opd ! (load ! (from ! (fld ! refl (stop !))) (look-in ! 20 (sub ! 1 refl (whole !))))) (from ! (stop !))
+          (init ! 10 refl (tt, record { fits = room .0 })) $
           calls-most 𝓤 H A W at-mem run ! fm known-most (length ys) (room .0) (and-then ! (load ! (from ! (stop !)) (look ! 11 refl)) (no-more !)) (λ n n-fits least.
           land ! (from ! (stop !)) (init ! 16 refl (tt, record { fits = n-fits })) $
           assigns ! (of-opd ! (lit ! tt)) (from ! (stop !)) (init ! 14 refl (tt, record { fits = lit< tt })) $
           -- the token and the slice, and the local table as a row
           move ! (25 ∷ []) $ fsplit ! $ move ! (1 ∷ []) $ drop ! $ move ! (25 ∷ []) $ split ! $ move ! (1 ∷ []) $ drop ! $ move ! (20 ∷ []) $
           use1 W (‵ (row RB fullShare t l₂ 0)) (row-out RB record-vals 𝓤 H A W (record-makes 𝓤 H A W) 64 t l₂ tt w (is .0)) $
-          first ! $ blocks ! $ loops ! 𝓣 (Nearer ys 64 n (loaded ys)) (nearer-wf ys 64 n (loaded ys)) (At n least l₀ l₁ l₂ l₃ l₄ l₅ l₆ l₇ l₈ l₉ l₁₀ l₁₁) (turns n least l₀ l₁ l₂ l₃ l₄ l₅ l₆ l₇ l₈ l₉ l₁₀ l₁₁)
+          first ! $ blocks ! $ loops ! 𝓣 (Nearer ys 64 n (loaded ys)) (nearer-wf ys 64 n (loaded ys)) (At n least l₀ l₁ l₂ l₃ l₄ l₅ l₆ l₇ l₈ l₉ l₁₀ l₁₁)
+          (turns n least l₀ l₁ l₂ l₃ l₄ l₅ l₆ l₇ l₈ l₉ l₁₀ l₁₁)
           (record { i = 0; t = t; long = is .0 .1 .0 .1; le = zero-le; eq = ap (λ (l : List Block). laid ys 0 l) (is .1) })))))))))))))))))
 
-  walks : (𝓣 : Tables 𝓤 H) → Triple 𝓤 (𝓣 .C blank-def.name) Blank → Triple 𝓤 (𝓣 .C most-def.name) (Most 𝓤 H A W at-mem run) → Triple 𝓤 (𝓣 .C read-def.name) (Read 𝓤 H A W at-mem run)
+  walks : (𝓣 : Tables 𝓤 H) → Triple 𝓤 (𝓣 .C blank-def.name) Blank → Triple 𝓤 (𝓣 .C most-def.name) (Most 𝓤 H A W at-mem run)
+      → Triple 𝓤 (𝓣 .C read-def.name) (Read 𝓤 H A W at-mem run)
       → Walks 𝓤 H A f.ended stayed (WpFn 𝓤 H (𝓣 .C) (𝓣 .Λ) code.function) (f.clauses 𝓤 H A at-mem run)
   walks 𝓣 known-blank known-most known-read =
-      walked 𝓤 H A f.ended stayed (f.clauses 𝓤 H A at-mem run) (WpFn 𝓤 H (𝓣 .C) (𝓣 .Λ) code.function) (λ κs. (slice-vals, tt)) (λ κs. (shr-slice-tells (named 0) (κs .0) RB, tt))
-      (λ κs qs bounds a g are. via 𝓤 _ (fst∗ 𝓤 _ (emp 𝓤)) (walk (κs .0) (qs .0) (a .0 .ptr .0) (a .0 .ptr .1) (a .0 .name) (a .0 .now) 𝓣 (fmOf 𝓤 H (W .laws) 𝓣) known-blank known-most known-read (are .0 .0 .1)))
+      walked 𝓤 H A f.ended stayed (f.clauses 𝓤 H A at-mem run) (WpFn 𝓤 H (𝓣 .C) (𝓣 .Λ) code.function) (λ κs. (slice-vals, tt))
+      (λ κs. (shr-slice-tells (named 0) (κs .0) RB, tt))
+      (λ κs qs bounds a g are. via 𝓤 _ (fst∗ 𝓤 _ (emp 𝓤)) (walk (κs .0) (qs .0) (a .0 .ptr .0) (a .0 .ptr .1) (a .0 .name)
+      (a .0 .now) 𝓣 (fmOf 𝓤 H (W .laws) 𝓣) known-blank known-most known-read (are .0 .0 .1)))
 
-  meets : (𝓣 : Tables 𝓤 H) → Triple 𝓤 (𝓣 .C blank-def.name) Blank → Triple 𝓤 (𝓣 .C most-def.name) (Most 𝓤 H A W at-mem run) → Triple 𝓤 (𝓣 .C read-def.name) (Read 𝓤 H A W at-mem run)
+  meets : (𝓣 : Tables 𝓤 H) → Triple 𝓤 (𝓣 .C blank-def.name) Blank → Triple 𝓤 (𝓣 .C most-def.name) (Most 𝓤 H A W at-mem run)
+      → Triple 𝓤 (𝓣 .C read-def.name) (Read 𝓤 H A W at-mem run)
       → Meets 𝓤 H A f.signature (WpFn 𝓤 H (𝓣 .C) (𝓣 .Λ) code.function) (f.spec 𝓤 H A at-mem run)
   meets 𝓣 known-blank known-most known-read =
       walk-meets 𝓤 H A f.ended stayed W (goes-dropped 𝓤 H A W 1 (shrSliceOf (0 ∷ []) tt (plain (λ _. RB))) yes (λ κs x f. refl), tt) (f.clauses 𝓤 H A at-mem run)
@@ -221,7 +242,8 @@ pub load-spec : {M : Type 1} → statement M
 unfolding code.routine tablesOf
 load-spec 𝓤 H 𝓜 𝓖 𝓡 =
     let A = 𝓖 .A in let W = givenOf 𝓤 H 𝓜 𝓖 in
-    entered 𝓤 H (tripleOf 𝓤 H A f.signature (f.spec 𝓤 H A (𝓜 .mem) (𝓡 .run))) (tables 𝓤 H 𝓜 𝓡 code.env .C) (tables 𝓤 H 𝓜 𝓡 code.env .Λ) name code.function (code.unfolded 𝓤 H 𝓜 𝓡)
+    entered 𝓤 H (tripleOf 𝓤 H A f.signature (f.spec 𝓤 H A (𝓜 .mem) (𝓡 .run))) (tables 𝓤 H 𝓜 𝓡 code.env .C)
+    (tables 𝓤 H 𝓜 𝓡 code.env .Λ) name code.function (code.unfolded 𝓤 H 𝓜 𝓡)
     (meets 𝓤 H A W (𝓜 .mem) (𝓡 .run) (tablesOf 𝓤 H 𝓜 (tables 𝓤 H 𝓜 𝓡 code.env))
     (cited 𝓤 H (Blank 𝓤 H A W (𝓜 .mem) (𝓡 .run)) 𝓜 𝓡 code.env blank-def.name blank-def.routine code.calls-table·blank (blank-thm.met 𝓤 H 𝓜 𝓖 𝓡))
     (cited 𝓤 H (Most 𝓤 H A W (𝓜 .mem) (𝓡 .run)) 𝓜 𝓡 code.env most-def.name most-def.routine code.calls-table·at-most-64 (most-thm.met 𝓤 H 𝓜 𝓖 𝓡))

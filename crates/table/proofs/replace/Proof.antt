@@ -68,12 +68,14 @@ module _ {M : Type 1} (𝓤 : URA M) (H : Heap 𝓤) (A : Atoms 𝓤) (W : Given
         → ent 𝓤 (⋆ 𝓤 H A (‵ (fobs γ (codedHoleys RB .code (heres RB zs))) ∷ ‵ (fbor κ (Held RB (length zs) b o γ)) ∷ ‵ (flft κ q) ∷ [])) (Exit vunit)
     exits room =
         qed W (‵ (fobs γ (codedHoleys RB .code (heres RB zs))) ∷ ‵ (fbor κ (Held RB (length zs) b o γ)) ∷ ‵ (flft κ q) ∷ []) ∵
-        suffices ! _ (ends-at 𝓤 H A f.ended stayed (f.clauses 𝓤 H A at-mem run) W (((κ, tt), (q, tt), tt, a, a-vals), tt) vunit tt (zs, (tt, (tt, tt))) (length-set ys i d, (tt, (tt, tt)))) $
+        suffices ! _ (ends-at 𝓤 H A f.ended stayed (f.clauses 𝓤 H A at-mem run) W (((κ, tt), (q, tt), tt, a, a-vals), tt) vunit tt (zs, (tt, (tt, tt)))
+        (length-set ys i d, (tt, (tt, tt)))) $
         says ! refl $ nothing ! $ move ! (3 ∷ 0 ∷ []) $ join ! $ frame ! $
         -- [obs; the borrow]: with the fact on the machine value it is what the slice owns
         fjoin ! $ pureI ! (at-slice RB (at-list RB b o γ zs) (a-vals .0)) (tt, (tt, tt))
         (ap (λ (m : ℕ). sliceVal (b, o) m ∷ []) (sym (length-set ys i d)), subst (Room RB) (sym (length-set ys i d)) room) $ fjoin ! $
-        nothing ! $ nothing ! $ fjoin ! $ nothing ! $ fjoin ! $ move ! (1 ∷ 0 ∷ []) $ fjoin ! $ feqI ! (List Val) (vunit ∷ []) (vunit ∷ []) refl $ move ! (1 ∷ 0 ∷ []) $ done !
+        nothing ! $ nothing ! $ fjoin ! $ nothing ! $ fjoin ! $ move ! (1 ∷ 0 ∷ []) $ fjoin ! $ feqI ! (List Val) (vunit ∷ []) (vunit ∷ []) refl $
+        move ! (1 ∷ 0 ∷ []) $ done !
 
     walk : (C : Calls 𝓤 H) (Λ : Loops 𝓤 H) → Room RB (length ys) → i < 2 ^ 64 → Is RB d (record-vals d) → i < length ys
         → ent 𝓤 (onEntry 𝓤 H A f.signature (κ, tt) (q, tt) a a-vals) (WpFn 𝓤 H C Λ code.function (sliceVal (b, o) (length ys) ∷ vint w64 i ∷ record-val d ∷ []) Exit)
@@ -84,14 +86,19 @@ module _ {M : Type 1} (𝓤 : URA M) (H : Heap 𝓤) (A : Atoms 𝓤) (W : Given
         pass1 ! (init ! 8 refl (tt, (tt, (record { fits = room .0 }, tt)))) $ pass1 ! (init ! 6 refl (tt, record { fits = i-fits })) $
         pass1 ! (init ! 4 refl (record-lawful 𝓤 H A W .typed d _ is .0)) $ pass0 ! $
         -- [local i at 10 − 2i; 12 the token; 13 what table, i and b own]
-        assigns ! (bin ! (load ! (from ! (stop !)) (look ! 6 refl)) (lit ! tt) (record { fits = bytes })) (from ! (stop !)) (init ! 2 refl (tt, record { fits = bytes })) $
-        assigns ! (bin ! (load ! (from ! (fld ! refl (stop !))) (look-in ! 8 (sub ! 0 refl (whole !)))) (load ! (from ! (stop !)) (look ! 2 refl)) tt) (from ! (stop !)) (init ! 0 refl (tt, tt)) $
+        assigns ! (bin ! (load ! (from ! (stop !)) (look ! 6 refl)) (lit ! tt) (record { fits = bytes })) (from ! (stop !))
+        (init ! 2 refl (tt, record { fits = bytes })) $
+        assigns ! (bin ! (load ! (from ! (fld ! refl (stop !))) (look-in ! 8 (sub ! 0 refl (whole !)))) (load ! (from ! (stop !)) (look ! 2 refl)) tt)
+        (from ! (stop !)) (init ! 0 refl (tt, tt)) $
         rewrite ! 0 (λ (p : ℕ). ‵ (fat fullShare tyPtr l₅ 0 (vptr b p))) (sym (place-is bytes-each o i)) refl $
         move ! (13 ∷ []) $ fsplit ! $ fsplit ! $ move ! (1 ∷ []) $ fsplit ! $ move ! (16 ∷ []) $ split ! $ move ! (2 ∷ 3 ∷ 0 ∷ []) $
         opens-slice ! tt RB ys b o $ elem-out ! RB (Is RB) (shows 𝓤 H A RB) record-vals record-tells fullShare ys i d b o within (λ _.
-        -- [0 table[i]; 1 what it owns; 2 the others; 3 the open borrow; 4 obs; 5 auth; three entries of the parameters'; local i at 19 − 2i]
-        assigns ! (of-opd ! (load ! (from ! (stop !)) (look ! 13 refl))) (from ! (hop ! (look ! 9 refl) (stop !))) (store-raw ! 0 refl (record-lawful 𝓤 H A W .typed d _ is .0)) $
-        move ! (1 ∷ []) $ drop ! $ owned ! RB (Is RB) (record-makes 𝓤 H A W) d _ is $ move ! (1 ∷ 0 ∷ []) $ elem-put ! RB fullShare ys i d (record-vals d) b o within $
+        -- [0 table[i]; 1 what it owns; 2 the others; 3 the open borrow; 4 obs; 5 auth; three of the parameters';
+        -- local i at 19 − 2i]
+        assigns ! (of-opd ! (load ! (from ! (stop !)) (look ! 13 refl))) (from ! (hop ! (look ! 9 refl) (stop !)))
+        (store-raw ! 0 refl (record-lawful 𝓤 H A W .typed d _ is .0)) $
+        move ! (1 ∷ []) $ drop ! $ owned ! RB (Is RB) (record-makes 𝓤 H A W) d _ is $ move ! (1 ∷ 0 ∷ []) $
+        elem-put ! RB fullShare ys i d (record-vals d) b o within $
         closes-slice ! tt RB ys zs (length-set ys i d) b o $
         assigns ! (of-opd ! (unit-lit !)) (from ! (stop !)) (init ! 16 refl (tt, tt)) $
         returns ! (look ! 16 refl) $ move ! (16 ∷ 17 ∷ 14 ∷ 15 ∷ 12 ∷ 13 ∷ 10 ∷ 11 ∷ 8 ∷ 9 ∷ 6 ∷ 7 ∷ []) $
@@ -108,8 +115,14 @@ module _ {M : Type 1} (𝓤 : URA M) (H : Heap 𝓤) (A : Atoms 𝓤) (W : Given
 
   meets : (𝓣 : Tables 𝓤 H) → Meets 𝓤 H A f.signature (WpFn 𝓤 H (𝓣 .C) (𝓣 .Λ) code.function) (f.spec 𝓤 H A at-mem run)
   meets 𝓣 =
-      walk-meets 𝓤 H A f.ended stayed W
-      (goes-slice 𝓤 H A W 1 0 tt (plain (λ _. RB)), (goes-dropped 𝓤 H A W 1 (plain (λ _. usize)) yes (λ κs x f. refl), (goes-dropped 𝓤 H A W 1 (plain (λ _. RB)) yes (λ κs x f. refl), tt)))
+      walk-meets 𝓤 H A f.ended stayed W (
+        goes-slice 𝓤 H A W 1 0 tt (plain (λ _. RB)),
+        (
+          goes-dropped 𝓤 H A W 1 (plain (λ _. usize)) yes (λ κs x f.
+              refl),
+          (goes-dropped 𝓤 H A W 1 (plain (λ _. RB)) yes (λ κs x f. refl), tt),
+        ),
+      )
       (f.clauses 𝓤 H A at-mem run) (WpFn 𝓤 H (𝓣 .C) (𝓣 .Λ) code.function) (WpFn-mono 𝓤 H (W .laws) 𝓣 code.function) (walks (𝓣 .C) (𝓣 .Λ))
 
 pub replace-spec : {M : Type 1} → statement M

@@ -50,7 +50,7 @@ use Rattle.walk.proofs.Rows.{row-out, row-back}
 use Rattle.table.proofs.Laying.{Laying, Nearer, nearer-wf, next, nearer, finished}
 use Rattle.table.proofs.Limit.{Least, Most, calls-most}
 use Rattle.table.proofs.Replacing.{Replace, calls-replace}
-use Rattle.table.proofs.Records.{RB, RT, record-val, record-vals, record-tells, bytes-each, record-makes, record-lawful, table-val, table-vals, table-tells, table-lawful}
+use Rattle.table.proofs.Records.{RB, RT, Lent, record-val, record-vals, record-tells, bytes-each, record-makes, record-lawful, table-val, table-vals, table-tells, table-lawful}
 use Rattle.table.proofs.at_most_64.Symbol as most-def
 use Rattle.table.proofs.at_most_64.Met as most-thm
 use Rattle.table.proofs.replace.Symbol as replace-def
@@ -79,11 +79,13 @@ module _ {M : Type 1} (𝓤 : URA M) (H : Heap 𝓤) (A : Atoms 𝓤) (W : Given
     Exit = walkOf 𝓤 H A f.ended stayed (f.clauses 𝓤 H A at-mem run) .post (((κ, tt), (q, tt), tt, a, a-vals), tt)
 
     exits : (zs : List Block) → length zs ≡ length ys → zs ≡ stored ys t
-        → ent 𝓤 (⋆ 𝓤 H A (‵ (MutSlice (named 0) κ RB .own (table zs) (slice-vals (table zs))) ∷ ‵ (flft κ q) ∷ [])) (Exit vunit)
+        → ent 𝓤 (⋆ 𝓤 H A (‵ (Lent κ (table zs)) ∷ ‵ (flft κ q) ∷ [])) (Exit vunit)
     exits zs long e =
-        qed W (‵ (MutSlice (named 0) κ RB .own (table zs) (slice-vals (table zs))) ∷ ‵ (flft κ q) ∷ []) ∵
-        suffices ! _ (ends-at 𝓤 H A f.ended stayed (f.clauses 𝓤 H A at-mem run) W (((κ, tt), (q, tt), tt, a, a-vals), tt) vunit tt (zs, (tt, tt)) (long, (tt, tt))) $ says ! e $
-        rewrite ! 0 (λ (m : ℕ). ‵ (MutSlice (named 0) κ RB .own (table zs) (sliceVal (b, o) m ∷ []))) long refl $ nothing ! $ move ! (2 ∷ 0 ∷ []) $ join ! $ frame ! $
+        qed W (‵ (Lent κ (table zs)) ∷ ‵ (flft κ q) ∷ []) ∵
+        suffices ! _ (ends-at 𝓤 H A f.ended stayed (f.clauses 𝓤 H A at-mem run) W (((κ, tt), (q, tt), tt, a, a-vals), tt) vunit tt (zs, (tt, tt)) (long, (tt, tt))) $
+        says ! e $
+        rewrite ! 0 (λ (m : ℕ). ‵ (MutSlice (named 0) κ RB .own (table zs) (sliceVal (b, o) m ∷ []))) long refl $ nothing ! $ move ! (2 ∷ 0 ∷ []) $ join ! $
+        frame ! $
         nothing ! $ nothing ! $ fjoin ! $ move ! (1 ∷ 0 ∷ []) $ fjoin ! $ feqI ! (List Val) (vunit ∷ []) (vunit ∷ []) refl $ move ! (1 ∷ 0 ∷ []) $ done !
 
     module _ (𝓣 : Tables 𝓤 H) (fm : FmC 𝓤 H (W .laws) (𝓣 .C)) (known-most : Triple 𝓤 (𝓣 .C most-def.name) (Most 𝓤 H A W at-mem run))
@@ -110,15 +112,18 @@ module _ {M : Type 1} (𝓤 : URA M) (H : Heap 𝓤) (A : Atoms 𝓤) (W : Given
         abbrev rest : Body
         rest = after 5 (code.function .body)
 
-        -- before a turn: [0 the local table's row; 1 the lent table; 2 the token; local i at 31 − 2i, and one less below _3, whose cell is away]
+        -- before a turn: [0 the local table's row; 1 the lent table; 2 the token; local i at 31 − 2i, and below _3, whose
+        -- cell is away, at 30 − 2i]
         abbrev At : Turn → List (Item 𝓤)
         At s =
-            ‵ (row RB fullShare t l₃ 0) ∷ ‵ (MutSlice (named 0) κ RB .own (table (s .t)) (slice-vals (table (s .t)))) ∷ ‵ (flft κ q)
+            ‵ (row RB fullShare t l₃ 0) ∷ ‵ (Lent κ (table (s .t))) ∷ ‵ (flft κ q)
             ∷ ‵ (froom (ty 14) l₁₄ 0) ∷ ‵ (fdies (ty 14) l₁₄) ∷ ‵ (froom (ty 13) l₁₃ 0) ∷ ‵ (fdies (ty 13) l₁₃) ∷ ‵ (froom (ty 12) l₁₂ 0) ∷ ‵ (fdies (ty 12) l₁₂)
             ∷ ‵ (froom (ty 11) l₁₁ 0) ∷ ‵ (fdies (ty 11) l₁₁) ∷ ‵ (froom (ty 10) l₁₀ 0) ∷ ‵ (fdies (ty 10) l₁₀) ∷ ‵ (froom (ty 9) l₉ 0) ∷ ‵ (fdies (ty 9) l₉)
-            ∷ ‵ (froom (ty 8) l₈ 0) ∷ ‵ (fdies (ty 8) l₈) ∷ ‵ (froom (ty 7) l₇ 0) ∷ ‵ (fdies (ty 7) l₇) ∷ ‵ (fat fullShare (ty 6) l₆ 0 (vint w64 (length ys))) ∷ ‵ (fdies (ty 6) l₆)
+            ∷ ‵ (froom (ty 8) l₈ 0) ∷ ‵ (fdies (ty 8) l₈) ∷ ‵ (froom (ty 7) l₇ 0) ∷ ‵ (fdies (ty 7) l₇) ∷ ‵ (fat fullShare (ty 6) l₆ 0 (vint w64 (length ys)))
+            ∷ ‵ (fdies (ty 6) l₆)
             ∷ ‵ (fat fullShare (ty 5) l₅ 0 (vint w64 (s .i))) ∷ ‵ (fdies (ty 5) l₅) ∷ ‵ (fat fullShare (ty 4) l₄ 0 (vint w64 n)) ∷ ‵ (fdies (ty 4) l₄)
-            ∷ ‵ (fdies (ty 3) l₃) ∷ ‵ (fat fullShare (ty 2) l₂ 0 (table-val t)) ∷ ‵ (fdies (ty 2) l₂) ∷ ‵ (fat fullShare (ty 1) l₁ 0 (sliceVal (b, o) (length ys))) ∷ ‵ (fdies (ty 1) l₁)
+            ∷ ‵ (fdies (ty 3) l₃) ∷ ‵ (fat fullShare (ty 2) l₂ 0 (table-val t)) ∷ ‵ (fdies (ty 2) l₂) ∷ ‵ (fat fullShare (ty 1) l₁ 0 (sliceVal (b, o) (length ys)))
+            ∷ ‵ (fdies (ty 1) l₁)
             ∷ ‵ (froom (ty 0) l₀ 0) ∷ ‵ (fdies (ty 0) l₀) ∷ []
 
         -- a turn ends nearer to n, or the loop is left and the rest runs
@@ -137,34 +142,43 @@ module _ {M : Type 1} (𝓤 : URA M) (H : Heap 𝓤) (A : Atoms 𝓤) (W : Given
         turns : (s : Turn) → Sq W (At s) (runs (𝓣 .C) (𝓣 .Λ) En body (anyQ (Turned s)))
         unfolding afterTurn
         turns s =
-            assigns ! (bin ! (load ! (from ! (stop !)) (look ! 21 refl)) (load ! (from ! (stop !)) (look ! 23 refl)) tt) (from ! (stop !)) (init ! 17 refl (tt, tt)) $
+            assigns ! (bin ! (load ! (from ! (stop !)) (look ! 21 refl)) (load ! (from ! (stop !)) (look ! 23 refl)) tt) (from ! (stop !))
+            (init ! 17 refl (tt, tt)) $
             first ! $ branches ! (load ! (from ! (stop !)) (look ! 17 refl))
             (λ less. skips ! $ exec ! (𝓣 .C) (𝓣 .Λ) En (after 2 body) (anyQ (Turned s)) $
             assigns ! (addr ! (from ! (fld ! refl (hop ! (look-in ! 28 (sub ! 0 refl (whole !))) (stop !))))) (from ! (stop !)) (init ! 13 refl (tt, tt)) $
-            assigns ! (agg ! (and-then ! (load ! (from ! (stop !)) (look ! 13 refl)) (and-then ! (load ! (from ! (fld ! refl (stop !))) (look-in ! 28 (sub ! 1 refl (whole !)))) (no-more !)))) (from ! (stop !))
+            assigns ! (agg ! (and-then ! (load ! (from ! (stop !)) (look ! 13 refl))
+            (and-then ! (load ! (from ! (fld ! refl (stop !))) (look-in ! 28 (sub ! 1 refl (whole !)))) (no-more !)))) (from ! (stop !))
             (init ! 11 refl (tt, (tt, (record { fits = room .0 }, tt)))) $
             -- the record is read
-            assigns ! (bin ! (load ! (from ! (stop !)) (look ! 21 refl)) (lit ! tt) (record { fits = bytes less })) (from ! (stop !)) (init ! 9 refl (tt, record { fits = bytes less })) $
+            assigns ! (bin ! (load ! (from ! (stop !)) (look ! 21 refl)) (lit ! tt) (record { fits = bytes less })) (from ! (stop !))
+            (init ! 9 refl (tt, record { fits = bytes less })) $
             assigns ! (addr ! (from ! (stop !))) (from ! (stop !)) (init ! 7 refl (tt, tt)) $
             assigns ! (bin ! (load ! (from ! (stop !)) (look ! 7 refl)) (load ! (from ! (stop !)) (look ! 9 refl)) tt) (from ! (stop !)) (init ! 5 refl (tt, tt)) $
             rewrite ! 5 (λ (p : ℕ). ‵ (fat fullShare tyPtr l₁₃ 0 (vptr l₃ p))) (sym (place-is bytes-each 0 (s .i))) refl $
             elem-out ! RB (Is RB) (shows 𝓤 H A RB) record-vals record-tells fullShare t (s .i) unused l₃ 0 (in-t less) (λ is.
-            assigns ! (of-opd ! (load ! (from ! (hop ! (look ! 7 refl) (stop !))) (look-raw ! 0 refl))) (from ! (stop !)) (init ! 5 refl (record-lawful 𝓤 H A W .typed d _ is .0)) $
+            assigns ! (of-opd ! (load ! (from ! (hop ! (look ! 7 refl) (stop !))) (look-raw ! 0 refl))) (from ! (stop !))
+            (init ! 5 refl (record-lawful 𝓤 H A W .typed d _ is .0)) $
             elem-back ! RB fullShare t (s .i) unused (record-vals d) l₃ 0 (in-t less) $
             -- and replaces the lent one
-            move ! (1 ∷ 2 ∷ []) $ calls-replace 𝓤 H A W at-mem run (s .i) d ! fm known-replace (named 0) κ q γ b o (s .t) (subst (Room RB) (sym (s .long)) room) (record-val d) (fits less) is (within less)
+            move ! (1 ∷ 2 ∷ []) $ calls-replace 𝓤 H A W at-mem run (s .i) d ! fm known-replace κ q γ b o (s .t) (subst (Room RB) (sym (s .long)) room)
+            (record-val d) (fits less) is (within less)
             (λ ν δ. opds-are ! (ap (λ (m : ℕ). sliceVal (b, o) m ∷ vint w64 (s .i) ∷ record-val d ∷ []) (sym (s .long)))
-            (and-then ! (load ! (from ! (stop !)) (look ! 11 refl)) (and-then ! (load ! (from ! (stop !)) (look ! 21 refl)) (and-then ! (load ! (from ! (stop !)) (look ! 3 refl)) (no-more !))))) (λ v z is-z.
+            (and-then ! (load ! (from ! (stop !)) (look ! 11 refl))
+            (and-then ! (load ! (from ! (stop !)) (look ! 21 refl)) (and-then ! (load ! (from ! (stop !)) (look ! 3 refl)) (no-more !))))) (λ v z is-z.
             land ! (from ! (stop !)) (init ! 15 refl (nothing-lawful 𝓤 H A W .typed z _ is-z .0)) $ move ! (2 ∷ []) $
-            assigns-last ! (bin ! (load ! (from ! (stop !)) (look ! 21 refl)) (lit ! tt) (record { fits = next-fits less })) (from ! (stop !)) (store ! 21 refl (tt, record { fits = next-fits less })) $
+            assigns-last ! (bin ! (load ! (from ! (stop !)) (look ! 21 refl)) (lit ! tt) (record { fits = next-fits less })) (from ! (stop !))
+            (store ! 21 refl (tt, record { fits = next-fits less })) $
             forget ! 17 refl $ forget ! 15 refl $ forget ! 13 refl $ forget ! 11 refl $ forget ! 9 refl $ forget ! 7 refl $ forget ! 5 refl $ forget ! 3 refl $
-            again ! (Nearer t (length ys) n (stored ys t)) At s (next t (length ys) n (stored ys t) few s (under less)) (nearer t (length ys) n (stored ys t) few s (under less)))))
+            again ! (Nearer t (length ys) n (stored ys t)) At s (next t (length ys) n (stored ys t) few s (under less))
+            (nearer t (length ys) n (stored ys t) few s (under less)))))
             (λ over. jumps ! $ exec ! (𝓣 .C) (𝓣 .Λ) En rest (atRet En Exit) $
             use1 W (given (Is RT t (table-val t ∷ [])) (‵ (fat fullShare (tyArray (lone (RB .mir)) 64) l₃ 0 (table-val t))))
             (row-back RB record-vals 𝓤 H A W (record-makes 𝓤 H A W) 64 t l₃ record-tells t-long) $ learn ! (λ _.
             assigns ! (of-opd ! (unit-lit !)) (from ! (stop !)) (init ! 30 refl (tt, tt)) $
             returns ! (look ! 30 refl) $
-            move ! (30 ∷ 31 ∷ 28 ∷ 29 ∷ 26 ∷ 27 ∷ 0 ∷ 25 ∷ 23 ∷ 24 ∷ 21 ∷ 22 ∷ 19 ∷ 20 ∷ 17 ∷ 18 ∷ 15 ∷ 16 ∷ 13 ∷ 14 ∷ 11 ∷ 12 ∷ 9 ∷ 10 ∷ 7 ∷ 8 ∷ 5 ∷ 6 ∷ 3 ∷ 4 ∷ []) $
+            move ! (30 ∷ 31 ∷ 28 ∷ 29 ∷ 26 ∷ 27 ∷ 0 ∷ 25 ∷ 23 ∷ 24 ∷ 21 ∷ 22 ∷ 19 ∷ 20 ∷ 17 ∷ 18 ∷ 15 ∷ 16 ∷ 13 ∷ 14 ∷ 11 ∷ 12 ∷ 9 ∷ 10 ∷ 7 ∷ 8 ∷ 5 ∷ 6 ∷ 3 ∷ 4
+            ∷ []) $
             free ! $ free ! $ free ! $ free ! $ free ! $ free ! $ free ! $ free ! $ free1 ! $ free1 ! $ free1 ! $ free1 ! $ free1 ! $ free1 ! $ free1 ! $ free0 ! $
             by ! (exits (s .t) (s .long) (finished t (length ys) n (stored ys t) (shorter (least .2)) s (nltb→le (s .i) n over)))))
           where
@@ -196,13 +210,15 @@ module _ {M : Type 1} (𝓤 : URA M) (H : Heap 𝓤) (A : Atoms 𝓤) (W : Given
       walk : ent 𝓤 (onEntry 𝓤 H A f.signature (κ, tt) (q, tt) a a-vals) (WpFn 𝓤 H (𝓣 .C) (𝓣 .Λ) code.function (sliceVal (b, o) (length ys) ∷ table-val t ∷ []) Exit)
       unfolding afterTurn
       walk =
-          qed W ((‵ (flft κ q) ⊛ ‵ ftrue) ∷ ‵ (owns (MutSlice (named 0) κ RB ∷ RT ∷ []) a a-vals) ∷ []) ∵ enter ! (𝓣 .C) (𝓣 .Λ) code.function (sliceVal (b, o) (length ys) ∷ table-val t ∷ []) _ $
+          qed W ((‵ (flft κ q) ⊛ ‵ ftrue) ∷ ‵ (owns (MutSlice (named 0) κ RB ∷ RT ∷ []) a a-vals) ∷ []) ∵
+          enter ! (𝓣 .C) (𝓣 .Λ) code.function (sliceVal (b, o) (length ys) ∷ table-val t ∷ []) _ $
           alloc1 ! (λ l₀. alloc1 ! (λ l₁. alloc1 ! (λ l₂. alloc1 ! (λ l₃. alloc1 ! (λ l₄. alloc1 ! (λ l₅. alloc1 ! (λ l₆. alloc1 ! (λ l₇.
           alloc1 ! (λ l₈. alloc1 ! (λ l₉. alloc1 ! (λ l₁₀. alloc1 ! (λ l₁₁. alloc1 ! (λ l₁₂. alloc1 ! (λ l₁₃. alloc1 ! (λ l₁₄. alloc0 ! $ params1 ! $
           pass1 ! (init ! 26 refl (tt, (tt, (record { fits = room .0 }, tt)))) $ pass1 ! (init ! 24 refl (table-lawful 𝓤 H A W .typed t _ is-t .0)) $ pass0 ! $
           -- [local i at 28 − 2i; 30 the token; 31 what table and t own]
           assigns ! (of-opd ! (load ! (from ! (stop !)) (look ! 24 refl))) (from ! (stop !)) (init ! 22 refl (table-lawful 𝓤 H A W .typed t _ is-t .0)) $
-          assigns ! (of-opd ! (load ! (from ! (fld ! refl (stop !))) (look-in ! 26 (sub ! 1 refl (whole !))))) (from ! (stop !)) (init ! 16 refl (tt, record { fits = room .0 })) $
+          assigns ! (of-opd ! (load ! (from ! (fld ! refl (stop !))) (look-in ! 26 (sub ! 1 refl (whole !))))) (from ! (stop !))
+          (init ! 16 refl (tt, record { fits = room .0 })) $
           calls-most 𝓤 H A W at-mem run ! fm known-most (length ys) (room .0) (and-then ! (load ! (from ! (stop !)) (look ! 17 refl)) (no-more !)) (λ n n-fits least.
           land ! (from ! (stop !)) (init ! 20 refl (tt, record { fits = n-fits })) $
           assigns ! (of-opd ! (lit ! tt)) (from ! (stop !)) (init ! 18 refl (tt, record { fits = lit< tt })) $
@@ -218,19 +234,22 @@ module _ {M : Type 1} (𝓤 : URA M) (H : Heap 𝓤) (A : Atoms 𝓤) (W : Given
   walks 𝓣 known-most known-replace =
       walked 𝓤 H A f.ended stayed (f.clauses 𝓤 H A at-mem run) (WpFn 𝓤 H (𝓣 .C) (𝓣 .Λ) code.function) (λ κs. (slice-vals, (table-vals, tt)))
       (λ κs. (mut-slice-tells (named 0) (κs .0) RB, (table-tells, tt))) (λ κs qs bounds a g are. via 𝓤 _ (fst∗ 𝓤 _ (emp 𝓤))
-      (walk (κs .0) (qs .0) (a .0 .ptr .0) (a .0 .ptr .1) (a .0 .name) (a .0 .now) (a .1 .0) 𝓣 (fmOf 𝓤 H (W .laws) 𝓣) known-most known-replace (are .0 .0 .1) (are .1 .0)))
+      (walk (κs .0) (qs .0) (a .0 .ptr .0) (a .0 .ptr .1) (a .0 .name) (a .0 .now) (a .1 .0) 𝓣 (fmOf 𝓤 H (W .laws) 𝓣) known-most known-replace (are .0 .0 .1)
+      (are .1 .0)))
 
   meets : (𝓣 : Tables 𝓤 H) → Triple 𝓤 (𝓣 .C most-def.name) (Most 𝓤 H A W at-mem run) → Triple 𝓤 (𝓣 .C replace-def.name) (Replace 𝓤 H A W at-mem run)
       → Meets 𝓤 H A f.signature (WpFn 𝓤 H (𝓣 .C) (𝓣 .Λ) code.function) (f.spec 𝓤 H A at-mem run)
   meets 𝓣 known-most known-replace =
-      walk-meets 𝓤 H A f.ended stayed W (goes-slice 𝓤 H A W 1 0 tt (plain (λ _. RB)), (goes-dropped 𝓤 H A W 1 (plain (λ _. RT)) yes (λ κs x f. refl), tt)) (f.clauses 𝓤 H A at-mem run)
+      walk-meets 𝓤 H A f.ended stayed W (goes-slice 𝓤 H A W 1 0 tt (plain (λ _. RB)), (goes-dropped 𝓤 H A W 1 (plain (λ _. RT)) yes (λ κs x f. refl), tt))
+      (f.clauses 𝓤 H A at-mem run)
       (WpFn 𝓤 H (𝓣 .C) (𝓣 .Λ) code.function) (WpFn-mono 𝓤 H (W .laws) 𝓣 code.function) (walks 𝓣 known-most known-replace)
 
 pub store-spec : {M : Type 1} → statement M
 unfolding code.routine tablesOf
 store-spec 𝓤 H 𝓜 𝓖 𝓡 =
     let A = 𝓖 .A in let W = givenOf 𝓤 H 𝓜 𝓖 in
-    entered 𝓤 H (tripleOf 𝓤 H A f.signature (f.spec 𝓤 H A (𝓜 .mem) (𝓡 .run))) (tables 𝓤 H 𝓜 𝓡 code.env .C) (tables 𝓤 H 𝓜 𝓡 code.env .Λ) name code.function (code.unfolded 𝓤 H 𝓜 𝓡)
+    entered 𝓤 H (tripleOf 𝓤 H A f.signature (f.spec 𝓤 H A (𝓜 .mem) (𝓡 .run))) (tables 𝓤 H 𝓜 𝓡 code.env .C)
+    (tables 𝓤 H 𝓜 𝓡 code.env .Λ) name code.function (code.unfolded 𝓤 H 𝓜 𝓡)
     (meets 𝓤 H A W (𝓜 .mem) (𝓡 .run) (tablesOf 𝓤 H 𝓜 (tables 𝓤 H 𝓜 𝓡 code.env))
     (cited 𝓤 H (Most 𝓤 H A W (𝓜 .mem) (𝓡 .run)) 𝓜 𝓡 code.env most-def.name most-def.routine code.calls-table·at-most-64 (most-thm.met 𝓤 H 𝓜 𝓖 𝓡))
     (cited 𝓤 H (Replace 𝓤 H A W (𝓜 .mem) (𝓡 .run)) 𝓜 𝓡 code.env replace-def.name replace-def.routine code.calls-table·replace (replace-thm.met 𝓤 H 𝓜 𝓖 𝓡)))

@@ -1,3 +1,4 @@
+-- The first arm has the number itself, the second the highest.
 use borrow.Author.Tests.{leb-true, leb-false}
 use Rattle.cabi.proofs.Narrowed.{kept, cut}
 use Rattle.cabi.proofs.narrow.at_most.Statement.{statement}

@@ -1,5 +1,6 @@
-use borrow.Author.Needs.{needs}
+-- A number held to 255 fits 8 bits.
 use native.Mathlib.Omega.{arith}
+use borrow.Author.Needs.{needs}
 use Rattle.cabi.proofs.Narrowed.{most}
 use Rattle.cabi.proofs.narrow.code.Statement.{statement}
 use Rattle.cabi.proofs.narrow.code.Tie as tie

@@ -1,5 +1,6 @@
-use borrow.Author.Needs.{needs}
+-- A number held to 65,535 fits 16 bits.
 use native.Mathlib.Omega.{arith}
+use borrow.Author.Needs.{needs}
 use Rattle.cabi.proofs.Narrowed.{most}
 use Rattle.cabi.proofs.narrow.size.Statement.{statement}
 use Rattle.cabi.proofs.narrow.size.Tie as tie

@@ -1,3 +1,4 @@
+-- The number and the value are what `words` promises of them.
 use borrow.Author.Needs.{needs}
 use Rattle.cabi.proofs.Parts.{answered}
 use Rattle.cabi.proofs.replies.of_answer.Statement.{statement}

@@ -1,3 +1,4 @@
+-- Each arm is of the case that it names, and hands over that case's reply.
 use Rattle.cabi.proofs.Parts.{checked}
 use Rattle.cabi.proofs.replies.of_check.Statement.{statement}
 use Rattle.cabi.proofs.replies.of_check.Tie as tie

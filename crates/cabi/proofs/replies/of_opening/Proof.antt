@@ -1,3 +1,4 @@
+-- Each arm is of the case that it names, and hands over that case's reply.
 use Rattle.cabi.proofs.Parts.{opening}
 use Rattle.cabi.proofs.replies.of_opening.Statement.{statement}
 use Rattle.cabi.proofs.replies.of_opening.Tie as tie

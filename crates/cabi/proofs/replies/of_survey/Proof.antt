@@ -1,3 +1,4 @@
+-- The number is what `survey_number` promises; the rest is read off.
 use borrow.Author.Needs.{needs}
 use Rattle.cabi.proofs.Parts.{surveyed}
 use Rattle.cabi.proofs.replies.of_survey.Statement.{statement}
