@@ -1,8 +1,11 @@
-# The commands of the house. `make play` and `make test` need the Rattle toolchain; the others cargo and a C compiler too.
+# The commands of the house. `make play` and `make test` need the Rattle toolchain alone.
 
-.PHONY: play test stored linked
+.PHONY: play test stored unlinked
 
 SCHEDULE ?= schedules/listing.lbq
+
+# The library is for x86-64: there, and where cargo and a C compiler are at hand, it is linked and compared with the model.
+linked := $(if $(and $(filter x86_64,$(shell uname -m)),$(shell command -v cargo),$(shell command -v $(CC)),$(shell command -v $(CXX))),first rust,unlinked)
 
 # Plays a schedule: its lines, and nothing else, go to standard output.
 play:
@@ -10,7 +13,7 @@ play:
 
 # What is stored, then the library as C and Rust link it, then the verdict from nothing: every crate proved, every
 # must-fail edit refused, every program run.
-test: stored linked
+test: stored $(linked)
 	@rt ci
 
 # Every file is in the layout, and every stored schedule is what its text says.
@@ -18,12 +21,7 @@ stored:
 	@rt fmt --check
 	@schedules/check
 
-# The C example, the Rust crate, and the library beside the model. Left out, with a word, where there is no cargo or no C compiler.
-linked:
-	@if command -v cargo >/dev/null && command -v cc >/dev/null; then \
-		$(MAKE) --no-print-directory first rust; \
-	else \
-		echo "no cargo or no C compiler here: the library is not linked and not compared with the model"; \
-	fi
+unlinked:
+	@echo "no x86-64, no cargo or no C compiler here: the library is not linked, and not compared with the model"
 
 include rust.mk
