@@ -18,17 +18,19 @@ export LBQ_LIB_DIR
 lib:
 	@rt staticlib cabi
 
-# The C example, built as C and the header as C++; what it prints is held to first.expected.
+# The C example, built as C and the header as C++; what it prints is held to first.expected. The README's program runs as printed.
 first: $(lbq_lib)
 	@mkdir -p target/c
 	@$(CC) $(CFLAGS) -std=c99 -Iinclude examples/c/first.c -L$(LBQ_LIB_DIR) -lcabi $(LBQ_LINK) -o target/c/first
 	@$(CXX) $(CFLAGS) -std=c++11 -Iinclude -x c++ -fsyntax-only examples/c/first.c
 	@target/c/first | diff examples/c/first.expected -
-	@echo "examples/c/first prints what it should"
+	@sed -n '/^```c$$/,/^```$$/p' README.md | sed '/^```/d' >target/c/readme.c
+	@$(CC) $(CFLAGS) -std=c99 -Iinclude target/c/readme.c -L$(LBQ_LIB_DIR) -lcabi $(LBQ_LINK) -o target/c/readme
+	@test "$$(target/c/readme)" = "WHOLE 100"
+	@echo "the C examples print what they should"
 
 # The Rust crate and its examples; library, model and book on a fixed stretch of runs.
 rust: $(lbq_lib)
-	@cd rust && cargo clippy --offline --release --all-targets --quiet
 	@cd rust && cargo test --offline --release
 
 # Library, model and book on STEPS steps, from SEED or from the clock.

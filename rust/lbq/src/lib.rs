@@ -61,3 +61,8 @@ pub use line::{Line, LineMut};
 pub use records::{Block, Desk, Head};
 pub use schedule::{Cut, Schedule, ScheduleError, Steps};
 pub use step::Step;
+
+/// The README's example runs as printed.
+#[cfg(doctest)]
+#[doc = include_str!("../../../README.md")]
+struct Readme;
