@@ -5,13 +5,12 @@
 // output: for each size a checksum of the answers, and how many of them were refusals. The CPU times
 // go to standard error: run target/bin/bench, or read target/log/bench.stderr. They mean something
 // only where the program runs without an emulator.
+use engine::opening::no_head;
+use engine::opening::no_table;
 use engine::opening::open;
 use engine::step::step;
 use libc::STDERR_FILENO;
 use libc::STDOUT_FILENO;
-use line::Block;
-use line::Desk;
-use line::Head;
 use words::number;
 use words::value;
 ghost use Prim.Native.Nat.{_≤_, _<_};
@@ -127,36 +126,6 @@ fn ask(i: u32, nb: u32) -> Asked
 // The checksum with two numbers more.
 fn add(sum: u64, x: u32, y: u32) -> u64 {
     (sum % PRIME * 31 + x as u64) * 31 + y as u64
-}
-
-// A head to open over.
-fn no_head() -> Head {
-    let idle = Desk {
-        stage: 0,
-        place: 0,
-        turn: 0,
-    };
-    let desks = [idle; 16];
-    Head {
-        nb: 0,
-        ne: 0,
-        t: 0,
-        reading: 0,
-        p: 0,
-        k: 0,
-        desks,
-    }
-}
-
-// A table to open over.
-fn no_table() -> [Block; 64] {
-    let unused = Block {
-        round: 0,
-        written: 0,
-        claimed: 0,
-        finished: 0,
-    };
-    [unused; 64]
 }
 
 // 1 for a refusal, or else 0.

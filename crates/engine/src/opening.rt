@@ -6,7 +6,7 @@ use line::Opening;
 use rules::each::fits;
 ghost use mathlib.Core.Path.{_≡_};
 ghost use lib.ListN.{length, replicate};
-ghost use Rattle.line.specs.Line.{opened};
+ghost use Rattle.line.specs.Line.{unused, opened};
 ghost use Rattle.engine.specs.Opens.{Opens};
 
 // What opening gives: the answer, the head and the table. The entries are changed in place.
@@ -43,6 +43,25 @@ fn fresh(nb: u16, ne: u16, t: u16) -> Head
         k: 0,
         desks: desks,
     }
+}
+
+// A head and a table of zeros: what a caller opens over who has none.
+pub fn no_head() -> Head
+    ensures { λ r. ⌜ r ≡ (opened (record { nb = 0; ne = 0; t = 0 })) .head ⌝ }
+{
+    fresh(0, 0, 0)
+}
+
+pub fn no_table() -> [Block; 64]
+    ensures { λ r. ⌜ r ≡ replicate 64 unused ⌝ }
+{
+    let unused = Block {
+        round: 0,
+        written: 0,
+        claimed: 0,
+        finished: 0,
+    };
+    [unused; 64]
 }
 
 // Where numbers and lengths fit, the lent records are unused and the entries 0; else everything is as it was.

@@ -1,47 +1,14 @@
 // A schedule that has its header: the line is opened in the store, and the steps are played on it.
 use crate::steps::play_steps;
 use crate::writing::only_unfit;
+use engine::opening::no_head;
+use engine::opening::no_table;
 use engine::opening::open;
-use line::Block;
-use line::Desk;
-use line::Head;
 use line::Opening;
 ghost use mathlib.Core.Path.{_≡_};
-ghost use lib.ListN.{length};
 ghost use Rattle.player.specs.Schedule.{opening};
 ghost use Rattle.player.specs.Printed.{printed};
 ghost use Rattle.player.specs.Parts.{Writes, Ready, entriesLent};
-
-// A head and a table to open over.
-fn no_head() -> Head {
-    let idle = Desk {
-        stage: 0,
-        place: 0,
-        turn: 0,
-    };
-    let desks = [idle; 16];
-    Head {
-        nb: 0,
-        ne: 0,
-        t: 0,
-        reading: 0,
-        p: 0,
-        k: 0,
-        desks,
-    }
-}
-
-fn no_table() -> [Block; 64]
-    ensures { λ r. ⌜ length r ≡ 64 ⌝ }
-{
-    let unused = Block {
-        round: 0,
-        written: 0,
-        claimed: 0,
-        finished: 0,
-    };
-    [unused; 64]
-}
 
 // The entries that a line of nb blocks of ne entries is lent: nb x ne, as far as the store goes. Where
 // that is less, the numbers are outside their limits, and opening refuses them.

@@ -1,10 +1,9 @@
 // A small line until it is worn: 2 blocks of 1 entry, put and get by turns. A schedule has too few steps for it.
+use engine::opening::no_head;
+use engine::opening::no_table;
 use engine::opening::open;
 use engine::step::step;
 use libc::STDOUT_FILENO;
-use line::Block;
-use line::Desk;
-use line::Head;
 use words::Answer;
 use words::word;
 ghost use Prim.Native.Nat.{_≤_};
@@ -17,35 +16,6 @@ const GET: u8 = 1;
 struct Worn {
     placed: u32,
     last: Answer,
-}
-
-// A head and a table to open over.
-fn no_head() -> Head {
-    let idle = Desk {
-        stage: 0,
-        place: 0,
-        turn: 0,
-    };
-    let desks = [idle; 16];
-    Head {
-        nb: 0,
-        ne: 0,
-        t: 0,
-        reading: 0,
-        p: 0,
-        k: 0,
-        desks,
-    }
-}
-
-fn no_table() -> [Block; 64] {
-    let unused = Block {
-        round: 0,
-        written: 0,
-        claimed: 0,
-        finished: 0,
-    };
-    [unused; 64]
 }
 
 fn is_put(answer: Answer) -> bool {

@@ -54,7 +54,7 @@ module _ (c : tie.After-open) where
   back = take-at fs (drop (m l) (s l)) (m l) (kept ∙ took l)
 
   table : length (c .before .before .no-table .result) ≡ 64
-  table = c .before .before .no-table .ensures
+  table = ap length (c .before .before .no-table .ensures)
 
   line : c .«open» .result .answer ≡ Open → T (fits (z l)) × (lineOf (c .«open» .result .head) (c .«open» .result .table) (start l .args .nb) (take (m l) (fs ++ drop (m l) (s l))) ≡ opened (z l))
   line e =
