@@ -6,8 +6,15 @@ use Rattle.book.specs.Choice.{if_then_else_, _≤ᵇ_}
 unfoldable pub atMost : ℕ → ℕ → ℕ
 atMost high n = if n ≤ᵇ high then n else high
 
+-- no code, and a size that does not fit
+abbrev pub highestCode : ℕ
+highestCode = 255
+
+abbrev pub highestSize : ℕ
+highestSize = 65535
+
 abbrev pub narrowCode : ℕ → ℕ
-narrowCode n = atMost 255 n
+narrowCode n = atMost highestCode n
 
 abbrev pub narrowSize : ℕ → ℕ
-narrowSize n = atMost 65535 n
+narrowSize n = atMost highestSize n
