@@ -1,10 +1,6 @@
 -- The cases of specs/Cases.antt, a list at a time, by computing. A definition that is changed gives another text, and the
 -- list with such a case is refused.
-use mathlib.Core.Path.{_≡_, refl}
-use mathlib.Core.Bool.{true, false}
-use mathlib.Core.List.{List}
-use Prim.Native.Nat.{ℕ}
-use lib.ListN.{length}
+use mathlib.Core.Path.{refl, ap}
 use Rattle.book.specs.Total.{total, any, all}
 use Rattle.book.specs.Sizes.{fits, isLabel, isOrder, currentTurn, isOwned}
 use Rattle.book.specs.Steps.{decode}
@@ -15,6 +11,8 @@ use Rattle.line.specs.Check as C
 use Rattle.line.specs.Calls as Calls
 use Rattle.player.specs.Schedule as S
 use Rattle.player.specs.Printed as P
+use Rattle.player.specs.Demands.{PlayedOnly}
+use Rattle.player.proofs.Demands.{played-only}
 use Rattle.player.specs.Cases.{ListingCases, HeaderCases, UnfitCases, CutCases, SizeCases, NumberCases, WordCases, DecimalCases, LimitCases}
 
 -- ---- what is computed with: to unfold one of these is to unfold all that it names
@@ -78,5 +76,5 @@ unfolding print DecimalCases
 decimal-cases = refl
 
 pub limit-cases : LimitCases
-unfolding S.played P.digits P.decimal P.lineText P.printed LimitCases
-limit-cases = (λ bs e. rw e refl, λ bs e h. rw (e, h) refl)
+unfolding P.digits P.decimal P.lineText P.printed PlayedOnly LimitCases
+limit-cases = (λ bs e. ap P.printed (played-only bs .0 (rw e tt)), λ bs e h. ap P.printed (played-only bs .1 (rw e tt) (rw h tt)))
