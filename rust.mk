@@ -1,4 +1,4 @@
-# C and Rust over the proved library. LBQ_LIB_DIR names the folder of another libcabi.a; without it the library is proved
+# C and Rust over the proved library. LBQ_LIB_DIR names the folder of another liblbq.a; without it the library is proved
 # and written first. LBQ_LINK is what else such an archive has to be linked with from C.
 
 STEPS ?= 10000000
@@ -14,18 +14,18 @@ export LBQ_LIB_DIR
 
 .PHONY: lib first rust soak bench
 
-# The library for C and Rust: target/staticlib/libcabi.a.
+# The library for C and Rust: target/staticlib/liblbq.a.
 lib:
-	@rt staticlib cabi
+	@rt staticlib lbq
 
 # The C example, built as C and the header as C++; what it prints is held to first.expected. The README's program runs as printed.
 first: $(lbq_lib)
 	@mkdir -p target/c
-	@$(CC) $(CFLAGS) -std=c99 -Iinclude examples/c/first.c -L$(LBQ_LIB_DIR) -lcabi $(LBQ_LINK) -o target/c/first
+	@$(CC) $(CFLAGS) -std=c99 -Iinclude examples/c/first.c -L$(LBQ_LIB_DIR) -llbq $(LBQ_LINK) -o target/c/first
 	@$(CXX) $(CFLAGS) -std=c++11 -Iinclude -x c++ -fsyntax-only examples/c/first.c
 	@target/c/first | diff examples/c/first.expected -
 	@sed -n '/^```c$$/,/^```$$/p' README.md | sed '/^```/d' >target/c/readme.c
-	@$(CC) $(CFLAGS) -std=c99 -Iinclude target/c/readme.c -L$(LBQ_LIB_DIR) -lcabi $(LBQ_LINK) -o target/c/readme
+	@$(CC) $(CFLAGS) -std=c99 -Iinclude target/c/readme.c -L$(LBQ_LIB_DIR) -llbq $(LBQ_LINK) -o target/c/readme
 	@test "$$(target/c/readme)" = "WHOLE 100"
 	@echo "the C examples print what they should"
 

@@ -3,7 +3,7 @@
  * The press that owns a line puts labels in and gets them out, first in, first out. Other presses have desks: a desk looks
  * at a block, claims the next label there, fetches it, and finishes. Every call is one step with one answer.
  *
- * Link with libcabi.a. Every call here is proved: its whole answer, and what head, table and entries hold afterwards.
+ * Link with liblbq.a. Every call here is proved: its whole answer, and what head, table and entries hold afterwards.
  *
  * What is lent. A call is lent a head, a block table of table_len records and entries_len entries, and keeps nothing of
  * them. The memory is the caller's; between the calls on one line nobody else may write it, and during a call nobody may

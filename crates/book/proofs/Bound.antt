@@ -17,8 +17,8 @@ use Rattle.book.specs.Total.{total}
 use Rattle.book.specs.Sizes.{Size, isLabel, isOrder, roundOf, isUsed, currentTurn, isOwned}
 use Rattle.book.specs.Steps.{Step, DeskStep, look, claim, fetch, finish, Deed, put, get, order, desk, unlisted, decode, Desk, idle, looked, claimed, fetched, carried}
 use Rattle.book.specs.Verdicts.{Verdict, judge, stage, column, atStage, noBlock, admitted, lookable, startable, placeable}
-use Rattle.book.specs.Book.{Row, Book, Outcome, says, rowAt, deskAt, withDesk, append, marked, putTurn, rowOf, written, first, waits, isBusy, mayPut, putStep, putMany, orderStep}
-use Rattle.book.specs.Book.{readTurn, getAt, getStep, lookStep, winnable, claimStep, fetchStep, finishStep, taken, deskStep, does, step, opened, answers, after}
+use Rattle.book.specs.Book.{Row, Book, Outcome, says, rowAt, deskAt, withDesk, append, markGone, putTurn, rowOf, written, first, waits, isBusy, mayPut, putStep, putMany, orderStep}
+use Rattle.book.specs.Book.{readTurn, getAt, getStep, lookStep, winnable, claimStep, fetchStep, finishStep, deskDoes, deskStep, does, step, opened, answers, after}
 use Rattle.book.specs.Counts.{count, won, lost, bound}
 use Rattle.book.specs.Demands.{Placed, Bounded}
 use Rattle.book.proofs.Choice.{by-test, cases, T→true, not→false, and-first, and-second, lt→true}
@@ -91,7 +91,7 @@ module _ (z : Size) where
           (λ s. let e : b .k ≡ t = omega (arith, nltb→le (b .k) t s) in rw e (omega (arith, dead-kept (b .rows) rs t keep (b .desks))));
     }
 
-    mark-keeps : (n t : ℕ) → n / z .ne ≡ t → (r : ℕ) → T (winnable z (b .rows) t r) → T (winnable z (marked (b .rows) n) t r)
+    mark-keeps : (n t : ℕ) → n / z .ne ≡ t → (r : ℕ) → T (winnable z (b .rows) t r) → T (winnable z (markGone (b .rows) n) t r)
     unfolding winnable
     mark-keeps n t e r w =
         let above = ltb→lt t (r / z .ne) (and-second (not ((rowAt (b .rows) r) .gone)) (t <ᵇ r / z .ne) w) in
@@ -102,7 +102,7 @@ module _ (z : Size) where
     get-at-paid t h l =
         let place = first z (b .rows) t in
         by-test (Pays b) (waits z (b .rows) t)
-        (λ w. moves (marked (b .rows) (rowOf z t place)) t h (rw mark-length l) (mark-keeps (rowOf z t place) t (row-turn z t place (first-fits z (b .rows) t w))))
+        (λ w. moves (markGone (b .rows) (rowOf z t place)) t h (rw mark-length l) (mark-keeps (rowOf z t place) t (row-turn z t place (first-fits z (b .rows) t w))))
         (λ _. moves (b .rows) t h l (λ r w. w))
 
     get-paid : Pays b (getStep z b)
@@ -139,10 +139,10 @@ module _ (z : Size) where
           (λ _. stays))
 
       -- the desk that wins has no look, so at most T - 1 are dead
-      wins : (r : ℕ) → Paid b (record { rows = marked (b .rows) r; k = b .k; desks = set (b .desks) d (claimed r) }) 0 1
+      wins : (r : ℕ) → Paid b (record { rows = markGone (b .rows) r; k = b .k; desks = set (b .desks) d (claimed r) }) 0 1
       unfolding putTurn
       wins r =
-          let rs = marked (b .rows) r in
+          let rs = markGone (b .rows) r in
           record {
             fit = record { many = length-set (b .desks) d (claimed r) ∙ f .many; reached = rw mark-length (f .reached) };
             paid = omega (arith, total-below (deadBy rs (b .k)) (dead-one rs (b .k)) (b .desks) d (claimed r) (omega arith) refl);
@@ -155,8 +155,8 @@ module _ (z : Size) where
           (λ n. changes idle 1 (rw (e, not→false (winnable z (b .rows) (b .k) r) n) (omega arith)))
 
       -- the grid, a stage at a time
-      at-stage : (x : Desk ℕ) (s : DeskStep) → deskAt b d ≡ x → Judged b (taken z b d (carried 0 x) s) 0 (atStage (stage x) (column s))
-      unfolding taken fetchStep finishStep
+      at-stage : (x : Desk ℕ) (s : DeskStep) → deskAt b d ≡ x → Judged b (deskDoes z b d (carried 0 x) s) 0 (atStage (stage x) (column s))
+      unfolding deskDoes fetchStep finishStep
       at-stage idle (look i) e = look-paid i
       at-stage idle claim e = stays
       at-stage idle fetch e = stays

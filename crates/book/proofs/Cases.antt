@@ -12,7 +12,7 @@ use Rattle.book.specs.Cases.{Case, marked, nearlyRight, letPass, deskSte
 use Rattle.book.specs.Decoding.{Decoding}
 use Rattle.book.specs.WornCases.{WornCases}
 use Rattle.book.specs.BoundCases.{boundCases, BoundCases}
-use Rattle.book.specs.Order.{those, wentBy, wentRows, gotRows, gotLabels, placedLabels}
+use Rattle.book.specs.Order.{filter, wentBy, wentRows, gotRows, gotLabels, placedLabels}
 use Rattle.book.specs.Clearing.{settling, emptying, clearing}
 use Rattle.book.specs.OrderCases.{orderCases, OrderCases}
 
@@ -20,9 +20,9 @@ use Rattle.book.specs.OrderCases.{orderCases, OrderCases}
 runs : Unit {0}
 unfolding
     fits isLabel isOrder currentTurn isOwned decode any admitted lookable startable placeable
-    B.marked B.lead B.putTurn B.rowsOf B.written B.first B.waits B.heldIn B.isBusy B.mayPut B.putStep B.putMany B.orderStep
-    B.readTurn B.getAt B.getStep B.lookStep B.winnable B.claimStep B.fetchStep B.finishStep B.taken B.deskStep B.does B.step
-    B.opened B.answers B.after B.played
+    B.markGone B.goneBefore B.putTurn B.rowsOf B.written B.first B.waits B.heldIn B.isBusy B.mayPut B.putStep B.putMany B.orderStep
+    B.readTurn B.getAt B.getStep B.lookStep B.winnable B.claimStep B.fetchStep B.finishStep B.deskDoes B.deskStep B.does B.step
+    B.opened B.answers B.after B.fromOpening
 runs = tt
 
 marked-hold : Hold marked
@@ -72,5 +72,5 @@ unfolding BoundCases boundCases runs total bound
 bound-cases = (refl, refl, (refl, refl, (refl, refl, tt)))
 
 pub order-cases : OrderCases
-unfolding OrderCases orderCases runs total those wentBy wentRows gotRows gotLabels placedLabels settling emptying clearing
+unfolding OrderCases orderCases runs total filter wentBy wentRows gotRows gotLabels placedLabels settling emptying clearing
 order-cases = ((refl, refl, (refl, refl, tt)), λ h. absurd (let g = h .1 .0 in omega arith), λ h. absurd (let g = h .1 .0 in omega arith))

@@ -16,9 +16,9 @@ use Rattle.book.specs.Total.{total}
 use Rattle.book.specs.Sizes.{Size, isOrder, isUsed, isOwned, currentTurn}
 use Rattle.book.specs.Steps.{Step, DeskStep, look, claim, fetch, finish, Deed, put, get, order, desk, unlisted, decode, Desk, idle, looked, claimed, fetched, carried}
 use Rattle.book.specs.Verdicts.{Verdict, judge, stage, column, atStage, noBlock, admitted, lookable}
-use Rattle.book.specs.Book.{Row, Book, Outcome, refuse, rowAt, deskAt, withDesk, append, marked, putTurn, rowOf, first, waits, mayPut, putStep, putMany, orderStep, readTurn}
-use Rattle.book.specs.Book.{getAt, getStep, lookStep, winnable, claimStep, fetchStep, finishStep, taken as deskTakes, deskStep, does, step, opened, answers, after, leaves}
-use Rattle.book.specs.Counts.{count, placed, got, taken, unfetchedBy, waitsBy, handed}
+use Rattle.book.specs.Book.{Row, Book, Outcome, refuse, rowAt, deskAt, withDesk, append, markGone, putTurn, rowOf, first, waits, mayPut, putStep, putMany, orderStep, readTurn}
+use Rattle.book.specs.Book.{getAt, getStep, lookStep, winnable, claimStep, fetchStep, finishStep, deskDoes, deskStep, does, step, opened, answers, after, leaves}
+use Rattle.book.specs.Counts.{count, placed, got, took, unfetchedBy, waitsBy, handed}
 use Rattle.book.specs.Demands.{Counting, Placed, NeverTwice}
 use Rattle.book.proofs.Choice.{by-test, by-verdict, cases, T→true, not→false, and-first, and-second, neq-test, eqb-same}
 use Rattle.book.proofs.Total.{total-append, total-set, total-cong, total-replicate, replicate-at}
@@ -30,7 +30,7 @@ use Rattle.book.proofs.Rows.{first-waits, first-in, row-append, mark-le
 pub record Tally : Type 0 where
   pub weight : ℕ → ℕ
   pub gone : List Row → ℕ
-  pub mark : (rs : List Row) (m : ℕ) → m < length rs → (rowAt rs m) .gone ≡ false → gone (marked rs m) ≡ gone rs + weight m
+  pub mark : (rs : List Row) (m : ℕ) → m < length rs → (rowAt rs m) .gone ≡ false → gone (markGone rs m) ≡ gone rs + weight m
   pub more : (rs : List Row) (a : ℕ) → gone (rs ++ (record { label = a; gone = false } ∷ [])) ≡ gone rs
 
 abbrev goneBy : Row → ℕ
@@ -40,7 +40,7 @@ abbrev pub one : ℕ → ℕ
 one n = 1
 
 every : Tally
-unfolding marked total
+unfolding markGone total
 every = record {
   weight = one;
   gone = total goneBy;
@@ -129,10 +129,10 @@ module _ (z : Size) where
 
   of-mark : (b : Book) (m t k : ℕ) (ds : List (Desk ℕ)) {g : ℕ} {ls l : List ℕ} → m < length (b .rows) → (rowAt (b .rows) m) .gone ≡ false
       → Fair (b .rows) ds → Hands (b .rows) g ls l → ((w : ℕ → ℕ) → total w l + held w ds ≡ held w (b .desks) + w m)
-      → Kept b k (record { rows = marked (b .rows) m; k = t; desks = ds }) k g ls l
+      → Kept b k (record { rows = markGone (b .rows) m; k = t; desks = ds }) k g ls l
   of-mark b m t k ds i w f h e =
       let long = mark-length (b .rows) m in
-      let reads : (f : ℕ → ℕ) → Reads f (marked (b .rows) m) → Reads f (b .rows) = λ f r n j. r n (omega arith) ∙ mark-label (b .rows) m n i in
+      let reads : (f : ℕ → ℕ) → Reads f (markGone (b .rows) m) → Reads f (b .rows) = λ f r n j. r n (omega arith) ∙ mark-label (b .rows) m n i in
       record {
         fair = record { many = f .many; within = λ d. omega (arith, f .within d) };
         grown = omega arith;
@@ -238,8 +238,8 @@ module _ (z : Size) where
       finish-kept r e = becomes idle (omega arith) (none (b .rows)) (λ w. rw e (omega arith))
 
       -- of the grid's 16, five are taken
-      grid-kept : (x : Desk ℕ) (s : DeskStep) → deskAt b d ≡ x → Judged (deskTakes z b d (carried 0 x) s) (atStage (stage x) (column s))
-      unfolding deskTakes
+      grid-kept : (x : Desk ℕ) (s : DeskStep) → deskAt b d ≡ x → Judged (deskDoes z b d (carried 0 x) s) (atStage (stage x) (column s))
+      unfolding deskDoes
       grid-kept idle (look i) e = look-kept i (ap unfetchedBy e)
       grid-kept idle claim e = refused
       grid-kept idle fetch e = refused
@@ -273,7 +273,7 @@ module _ (z : Size) where
     does-kept unlisted = refused
 
   abbrev pub Run : Book → List Step → Type 0
-  Run b ss = let l = answers z b ss in Kept b 0 (after z b ss) (placed l) (got l + taken l) (handed l) (leaves z b ss)
+  Run b ss = let l = answers z b ss in Kept b 0 (after z b ss) (placed l) (got l + took l) (handed l) (leaves z b ss)
 
   pub run-kept : (b : Book) (ss : List Step) → Fair (b .rows) (b .desks) → Run b ss
   unfolding answers after leaves step total handed

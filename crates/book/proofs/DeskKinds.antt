@@ -13,7 +13,7 @@ use Rattle.book.specs.Choice.{_≤ᵇ_}
 use Rattle.book.specs.Sizes.{Size, isUsed, currentTurn, isOwned}
 use Rattle.book.specs.Steps.{DeskStep, look, claim, fetch, finish, Desk, idle, looked, claimed, fetched, carried}
 use Rattle.book.specs.Verdicts.{Verdict, judge, stage, column, atStage, noBlock, admitted, lookable}
-use Rattle.book.specs.Book.{Book, Outcome, says, hands, refuse, rowAt, deskAt, withDesk, marked, putTurn, rowOf, first, waits, lookStep, winnable, claimStep, fetchStep, finishStep, taken, deskStep}
+use Rattle.book.specs.Book.{Book, Outcome, says, hands, refuse, rowAt, deskAt, withDesk, markGone, putTurn, rowOf, first, waits, lookStep, winnable, claimStep, fetchStep, finishStep, deskDoes, deskStep}
 use Rattle.book.proofs.Choice.{by-test, and-second}
 
 module _ (z : Size) (b : Book) (P : Outcome → Type 0) where
@@ -21,7 +21,7 @@ module _ (z : Size) (b : Book) (P : Outcome → Type 0) where
     pub refused : (w : Refusal) → P (refuse b w)
     pub seen : (d t : ℕ) → T (waits z (b .rows) t) → P (says (withDesk b d (looked (rowOf z t (first z (b .rows) t)))) (Seen (first z (b .rows) t)))
     pub won : (d r : ℕ) → deskAt b d ≡ looked r → T (winnable z (b .rows) (b .k) r)
-        → P (says (record { rows = marked (b .rows) r; k = b .k; desks = set (b .desks) d (claimed r) }) (Claimed (r % z .ne)))
+        → P (says (record { rows = markGone (b .rows) r; k = b .k; desks = set (b .desks) d (claimed r) }) (Claimed (r % z .ne)))
     pub lost : (d : ℕ) → P (says (withDesk b d idle) (Refused Lost 0))
     pub took : (d r : ℕ) → deskAt b d ≡ claimed r → P (hands (withDesk b d (fetched r)) (Took ((rowAt (b .rows) r) .label)) r)
     pub done : (d r : ℕ) → deskAt b d ≡ fetched r → P (says (withDesk b d idle) Done)
@@ -42,8 +42,8 @@ module _ (z : Size) (b : Book) (P : Outcome → Type 0) where
     unfolding claimStep
     claim-kind d r e = by-test P (winnable z (b .rows) (b .k) r) (λ w. k .won d r e w) (λ _. k .lost d)
 
-    grid-kind : (d : ℕ) (x : Desk ℕ) (s : DeskStep) → deskAt b d ≡ x → Judged (taken z b d (carried 0 x) s) (atStage (stage x) (column s))
-    unfolding taken fetchStep finishStep
+    grid-kind : (d : ℕ) (x : Desk ℕ) (s : DeskStep) → deskAt b d ≡ x → Judged (deskDoes z b d (carried 0 x) s) (atStage (stage x) (column s))
+    unfolding deskDoes fetchStep finishStep
     grid-kind d idle (look i) e = look-kind d i
     grid-kind d idle claim e = k .refused _
     grid-kind d idle fetch e = k .refused _

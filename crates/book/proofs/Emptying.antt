@@ -16,7 +16,7 @@ use Rattle.book.specs.Choice.{if_then_else_}
 use Rattle.book.specs.Total.{total}
 use Rattle.book.specs.Sizes.{Size}
 use Rattle.book.specs.Steps.{decode}
-use Rattle.book.specs.Book.{Row, Book, Outcome, rowAt, marked, putTurn, rowOf, first, waits, getAt, getStep, does, step, answers, after}
+use Rattle.book.specs.Book.{Row, Book, Outcome, rowAt, markGone, putTurn, rowOf, first, waits, getAt, getStep, does, step, answers, after}
 use Rattle.book.specs.Counts.{waitsBy, waiting}
 use Rattle.book.specs.Cases.{get}
 use Rattle.book.proofs.Choice.{by-test, cases, T→true, not→false}
@@ -90,7 +90,7 @@ module _ (z : Size) (pos : 0 < z .ne) where
         (omega (arith, reads-p w, nltb→le (n / z .ne) (reads z b) t, div-mono {a = n} {b = length (b .rows) - 1} (z .ne) (omega arith))) h)
 
     get-out : OneLess b (getStep z b) ⊎ NoneLeft b (getStep z b)
-    unfolding getStep getAt marked
+    unfolding getStep getAt markGone
     get-out =
         let t = reads z b in
         let n = rowOf z t (first z (b .rows) t) in

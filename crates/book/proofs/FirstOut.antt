@@ -10,7 +10,7 @@ use Rattle.book.specs.Total.{total}
 use Rattle.book.specs.Sizes.{Size, isOrder}
 use Rattle.book.specs.Steps.{Step, DeskStep, Deed, put, get, order, desk, unlisted, decode, Desk, idle}
 use Rattle.book.specs.Decoding.{upFrom}
-use Rattle.book.specs.Book.{Row, Book, Outcome, rowAt, deskAt, append, marked, rowOf, first, waits, mayPut, putStep, putMany, orderStep, getAt, getStep, deskStep, does, step, opened, answers, after, leaves}
+use Rattle.book.specs.Book.{Row, Book, Outcome, rowAt, deskAt, append, markGone, rowOf, first, waits, mayPut, putStep, putMany, orderStep, getAt, getStep, deskStep, does, step, opened, answers, after, leaves}
 use Rattle.book.specs.Counts.{count, got, won}
 use Rattle.book.specs.Demands.{Counting, Placed, Handed}
 use Rattle.book.specs.Order.{FirstInFirstOut, PlacedInOrder}
@@ -80,7 +80,7 @@ module _ (z : Size) where
           (λ e. e)
           (λ h. absurd (true-not-false (sym (all-before g h) ∙ c .marks g ∙ ge→false g g (omega arith))))
 
-      marks-next : (n : ℕ) → (rowAt (marked (b .rows) next) n) .gone ≡ (n <ᵇ g + 1)
+      marks-next : (n : ℕ) → (rowAt (markGone (b .rows) next) n) .gone ≡ (n <ᵇ g + 1)
       marks-next n =
           cases (eqb n next)
           (λ t. let e = eqb→eq n next t in rw e (mark-same (b .rows) next (first-in z (b .rows) (reads z b) w) ∙ sym (lt→true next (g + 1) (omega (arith, next-is)))))

@@ -16,7 +16,7 @@ use Rattle.book.specs.Choice.{_<ᵇ_, _≤ᵇ_}
 use Rattle.book.specs.Sizes.{Size, isLabel, isOrder, roundOf}
 use Rattle.book.specs.Verdicts.{Verdict, judge, startable, placeable}
 use Rattle.book.specs.Steps.{Step, DeskStep, Deed, put, get, order, desk, unlisted, decode, Desk, idle, looked, claimed, fetched}
-use Rattle.book.specs.Book.{Row, Book, Outcome, rowAt, deskAt, append, marked, lead, putTurn, rowOf, rowsOf, written, first, waits, isBusy, mayPut, putStep, putMany, orderStep, readTurn}
+use Rattle.book.specs.Book.{Row, Book, Outcome, rowAt, deskAt, append, markGone, goneBefore, putTurn, rowOf, rowsOf, written, first, waits, isBusy, mayPut, putStep, putMany, orderStep, readTurn}
 use Rattle.book.specs.Book.{getAt, getStep, deskStep, does, step, opened, after}
 use Rattle.book.proofs.Choice.{by-test, cases, T→true, true-not-false, neq-test}
 use Rattle.book.proofs.Total.{replicate-at}
@@ -30,13 +30,13 @@ abbrev pub Gone : List Row → ℕ → Type 0
 Gone rs n = (rowAt rs n) .gone ≡ true
 
 -- all rows before the first waiting one are gone
-lead-gone : (rs : List Row) (p : ℕ) → p < lead rs → Gone rs p
-unfolding lead
-lead-gone [] p = λ h. absurd (not-suc-le-zero h)
-lead-gone (r ∷ rs) zero =
+goneBefore-gone : (rs : List Row) (p : ℕ) → p < goneBefore rs → Gone rs p
+unfolding goneBefore
+goneBefore-gone [] p = λ h. absurd (not-suc-le-zero h)
+goneBefore-gone (r ∷ rs) zero =
     by-test (λ m. 0 < m → r .gone ≡ true) (r .gone) (λ t h. T→true (r .gone) t) (λ t h. absurd (not-suc-le-zero h))
-lead-gone (r ∷ rs) (suc p) =
-    by-test (λ m. suc p < m → Gone rs p) (r .gone) (λ t h. lead-gone rs p (le-of-suc-le-suc h)) (λ t h. absurd (not-suc-le-zero h))
+goneBefore-gone (r ∷ rs) (suc p) =
+    by-test (λ m. suc p < m → Gone rs p) (r .gone) (λ t h. goneBefore-gone rs p (le-of-suc-le-suc h)) (λ t h. absurd (not-suc-le-zero h))
 
 -- a mark leaves the gone rows gone, and no other row goes
 set-gone : (rs : List Row) (n m : ℕ) (r : Row) → r .gone ≡ true → Gone rs m → Gone (set rs n r) m
@@ -46,11 +46,11 @@ set-gone (x ∷ rs) zero (suc m) r e g = g
 set-gone (x ∷ rs) (suc n) zero r e g = g
 set-gone (x ∷ rs) (suc n) (suc m) r e g = set-gone rs n m r e g
 
-pub mark-keeps : (rs : List Row) (n m : ℕ) → Gone rs m → Gone (marked rs n) m
-unfolding marked
+pub mark-keeps : (rs : List Row) (n m : ℕ) → Gone rs m → Gone (markGone rs n) m
+unfolding markGone
 mark-keeps rs n m g = set-gone rs n m _ refl g
 
-pub mark-new : (rs : List Row) (n m : ℕ) → Gone (marked rs n) m → Gone rs m ⊎ (m ≡ n)
+pub mark-new : (rs : List Row) (n m : ℕ) → Gone (markGone rs n) m → Gone rs m ⊎ (m ≡ n)
 mark-new rs n m g = cases (eqb m n) (λ t. inr (eqb→eq m n t)) (λ t. inl (ap (λ (r : Row). r .gone) (sym (mark-other rs n m (neq-test m n t))) ∙ g))
 
 module _ (z : Size) where
@@ -84,7 +84,7 @@ module _ (z : Size) where
       let times = ap (λ (x : ℕ). x * z .ne) same in
       let q = m % z .ne in
       let is : m ≡ rowOf z t q = omega arith in
-      rw is (ap (λ (r : Row). r .gone) (sym (row-place z rs t q (omega arith))) ∙ lead-gone (rowsOf z rs t) q (omega arith))
+      rw is (ap (λ (r : Row). r .gone) (sym (row-place z rs t q (omega arith))) ∙ goneBefore-gone (rowsOf z rs t) q (omega arith))
 
   pub none-waits : (rs : List Row) (t : ℕ) → T (not (waits z rs t)) → 0 < z .ne → (n : ℕ) → n / z .ne ≡ t → n < length rs → Gone rs n
   unfolding waits first written
@@ -94,8 +94,8 @@ module _ (z : Size) where
       let whole = div-add-mod' n (z .ne) in
       let times = ap (λ (x : ℕ). x * z .ne) e in
       let is : n ≡ rowOf z t q = omega arith in
-      let all = nltb→le (lead (rowsOf z rs t)) (length (rowsOf z rs t)) w in
-      rw is (ap (λ (r : Row). r .gone) (sym (row-place z rs t q low)) ∙ lead-gone (rowsOf z rs t) q (omega (arith, written-is z rs t)))
+      let all = nltb→le (goneBefore (rowsOf z rs t)) (length (rowsOf z rs t)) w in
+      rw is (ap (λ (r : Row). r .gone) (sym (row-place z rs t q low)) ∙ goneBefore-gone (rowsOf z rs t) q (omega (arith, written-is z rs t)))
 
   -- ---- what a step keeps: the fronts, and what is gone stays gone
 
@@ -141,7 +141,7 @@ module _ (z : Size) where
     }
 
     -- row n is marked, all before it in its turn being gone
-    of-mark : (n : ℕ) → Before (b .rows) n → Grows b (record { rows = marked (b .rows) n; k = b .k; desks = b .desks })
+    of-mark : (n : ℕ) → Before (b .rows) n → Grows b (record { rows = markGone (b .rows) n; k = b .k; desks = b .desks })
     unfolding putTurn
     of-mark n q =
         let keeps = mark-keeps (b .rows) n in
@@ -153,7 +153,7 @@ module _ (z : Size) where
             prefix = λ m g.
                 ⊎-elim (λ o i h e. keeps i (f .prefix m o i h e)) (λ e i h s. keeps i (q i (omega arith) (s ∙ ap (λ (x : ℕ). x / z .ne) e))) (mark-new (b .rows) n m g);
             past = λ m h. keeps m (f .past m h);
-            seen = λ d. seen-still (b .rows) (marked (b .rows) n) keeps (deskAt b d) (f .seen d);
+            seen = λ d. seen-still (b .rows) (markGone (b .rows) n) keeps (deskAt b d) (f .seen d);
           };
           onward = omega arith;
           gone = keeps;

@@ -12,7 +12,7 @@ use Rattle.book.specs.Choice.{if_then_else_, _≡ᵇ_}
 use Rattle.book.specs.Sizes.{Size, within, isOrder}
 use Rattle.book.specs.Steps.{Step, Deed, put, get, order, desk, unlisted, decode}
 use Rattle.book.specs.Decoding.{upFrom}
-use Rattle.book.specs.Book.{Row, Book, Outcome, rowAt, append, marked, waits, mayPut, putStep, putMany, orderStep, getAt, getStep, does, step, opened, answers, after}
+use Rattle.book.specs.Book.{Row, Book, Outcome, rowAt, append, markGone, waits, mayPut, putStep, putMany, orderStep, getAt, getStep, does, step, opened, answers, after}
 use Rattle.book.specs.Counts.{count}
 use Rattle.book.specs.Order.{placedLabels, gotLabels, gotRows, PlacedInOrder, GotInOrder}
 use Rattle.book.proofs.Choice.{true-not-false, by-test, by-test₂, by-verdict, cases}
@@ -27,8 +27,8 @@ use Rattle.book.proofs.Rising.{All, all-map, all-append, picked}
 abbrev pub labelsOf : List Row → List ℕ
 labelsOf rs = map (λ r. r .label) rs
 
-labels-mark : (rs : List Row) (n : ℕ) → labelsOf (marked rs n) ≡ labelsOf rs
-unfolding marked
+labels-mark : (rs : List Row) (n : ℕ) → labelsOf (markGone rs n) ≡ labelsOf rs
+unfolding markGone
 labels-mark rs n = map-set-same (λ (r : Row). r .label) rs n _ (record { label = 0; gone = false }) refl
 
 -- what a deed places, if it places, are labels from a on

@@ -13,12 +13,12 @@ use Rattle.book.specs.Sizes.{Size}
 use Rattle.book.specs.Steps.{Step, decode}
 use Rattle.book.specs.Decoding.{upFrom}
 use Rattle.book.specs.Book.{Row, Book, Outcome, rowAt, rowOf, first, waits, getAt, getStep, does, step, opened}
-use Rattle.book.specs.Order.{those, wentBy, wentRows, gotRows, GetsInOrder, GoesInOrder}
+use Rattle.book.specs.Order.{filter, wentBy, wentRows, gotRows, GetsInOrder, GoesInOrder}
 use Rattle.book.proofs.Choice.{by-test, cases, T→true, not→false, true-not-false, and-first, and-second, neq-test}
 use Rattle.book.proofs.Turns.{div-mono}
 use Rattle.book.proofs.Rows.{row-turn, first-fits, first-waits, first-in, mark-same}
 use Rattle.book.proofs.Fronts.{Gone, Fronts, Grows, reads, reads-low, step-grows, opened-fronts}
-use Rattle.book.proofs.Rising.{RisesFrom, All, increasing, rises-from, rises-on, all-map, all-both, up-rises, those-append, those-rise, those-pass, those-keep}
+use Rattle.book.proofs.Rising.{RisesFrom, All, increasing, rises-from, rises-on, all-map, all-both, up-rises, filter-append, filter-rise, filter-pass, filter-keep}
 
 -- ---- waiting, and gone
 
@@ -51,41 +51,41 @@ module _ (z : Size) where
   abbrev ofTurn : ℕ → ℕ → Bool
   ofTurn t n = n / z .ne ≡ᵇ t
 
-  record Went (t : ℕ) (rs qs : List Row) (n : ℕ) : Type 0 where
+  record Goes (t : ℕ) (rs qs : List Row) (n : ℕ) : Type 0 where
     here : n / z .ne ≡ t
     waits-before : Waits rs n
     gone-after : Gone qs n
 
-  went-by : (t : ℕ) (rs qs : List Row) → All (Went t rs qs) (those (ofTurn t) (wentBy rs qs))
+  went-by : (t : ℕ) (rs qs : List Row) → All (Goes t rs qs) (filter (ofTurn t) (wentBy rs qs))
   unfolding wentBy
   went-by t rs qs =
       let goes : ℕ → Bool = λ n. not ((rowAt rs n) .gone) && (rowAt qs n) .gone in
       let l = upFrom (length qs) 0 in
-      all-both (λ n. T (ofTurn t n)) (λ n. T (goes n)) (Went t rs qs)
+      all-both (λ n. T (ofTurn t n)) (λ n. T (goes n)) (Goes t rs qs)
       (λ n o g. record {
         here = eqb→eq (n / z .ne) t o;
         waits-before = not→false ((rowAt rs n) .gone) (and-first (not ((rowAt rs n) .gone)) ((rowAt qs n) .gone) g);
         gone-after = T→true ((rowAt qs n) .gone) (and-second (not ((rowAt rs n) .gone)) ((rowAt qs n) .gone) g);
       })
-      (those (ofTurn t) (those goes l)) (those-pass (ofTurn t) (those goes l)) (those-keep (ofTurn t) (λ n. T (goes n)) (those goes l) (those-pass goes l))
+      (filter (ofTurn t) (filter goes l)) (filter-pass (ofTurn t) (filter goes l)) (filter-keep (ofTurn t) (λ n. T (goes n)) (filter goes l) (filter-pass goes l))
 
   went-rises : (rs qs : List Row) → RisesFrom 0 (wentBy rs qs)
   unfolding wentBy
-  went-rises rs qs = those-rise (λ n. not ((rowAt rs n) .gone) && (rowAt qs n) .gone) 0 (upFrom (length qs) 0) (up-rises (length qs) 0)
+  went-rises rs qs = filter-rise (λ n. not ((rowAt rs n) .gone) && (rowAt qs n) .gone) 0 (upFrom (length qs) 0) (up-rises (length qs) 0)
 
   -- a bounds the rows of turn t that wait, and so those that will go
   run-went : (ss : List Step) (b : Book) → Fronts z b → (t a : ℕ) → ((m : ℕ) → m / z .ne ≡ t → Waits (b .rows) m → a ≤ m)
-      → RisesFrom a (those (ofTurn t) (wentRows z b ss))
-  unfolding wentRows those
+      → RisesFrom a (filter (ofTurn t) (wentRows z b ss))
+  unfolding wentRows filter
   run-went [] b f t a h = tt
   run-went (s ∷ ss) b f t a h =
       let c = (step z b s) .book in
       let g = step-grows z b s f in
-      let now = those (ofTurn t) (wentBy (b .rows) (c .rows)) in
-      let rest = those (ofTurn t) (wentRows z c ss) in
+      let now = filter (ofTurn t) (wentBy (b .rows) (c .rows)) in
+      let rest = filter (ofTurn t) (wentRows z c ss) in
       let went = went-by t (b .rows) (c .rows) in
-      rw (those-append (ofTurn t) (wentBy (b .rows) (c .rows)) (wentRows z c ss)) (rises-on a now rest
-      (rises-from a 0 now (those-rise (ofTurn t) 0 (wentBy (b .rows) (c .rows)) (went-rises (b .rows) (c .rows))) (all-map _ (λ n. a ≤ n) (λ n w. h n (w .here) (w .waits-before)) now went))
+      rw (filter-append (ofTurn t) (wentBy (b .rows) (c .rows)) (wentRows z c ss)) (rises-on a now rest
+      (rises-from a 0 now (filter-rise (ofTurn t) 0 (wentBy (b .rows) (c .rows)) (went-rises (b .rows) (c .rows))) (all-map _ (λ n. a ≤ n) (λ n w. h n (w .here) (w .waits-before)) now went))
       (all-map _ (λ n. RisesFrom (suc n) rest)
       (λ n w. run-went ss c (g .fronts) t (suc n) (λ m e v. gone-first c (g .fronts) n m (w .gone-after) v (e ∙ sym (w .here)))) now went)
       (run-went ss c (g .fronts) t a (λ m e v. h m e (waited b c g m v))))
@@ -145,7 +145,7 @@ module _ (z : Size) where
 
 pub goes-in-order : GoesInOrder
 unfolding GoesInOrder
-goes-in-order z ss t = increasing 0 (those (ofTurn z t) (wentRows z (opened z) ss)) (run-went z ss (opened z) (opened-fronts z) t 0 (λ m e w. zero-le))
+goes-in-order z ss t = increasing 0 (filter (ofTurn z t) (wentRows z (opened z) ss)) (run-went z ss (opened z) (opened-fronts z) t 0 (λ m e w. zero-le))
 
 pub gets-in-order : GetsInOrder
 unfolding GetsInOrder

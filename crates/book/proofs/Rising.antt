@@ -9,7 +9,7 @@ use lib.Dec.{T}
 use lib.ListN.{length, getD, take, drop}
 use lib.Seq.{drop-cons, drop-nil}
 use Rattle.book.specs.Decoding.{upFrom}
-use Rattle.book.specs.Order.{Increasing, those}
+use Rattle.book.specs.Order.{Increasing, filter}
 use Rattle.book.proofs.Choice.{by-test, cases, choose-true, choose-false}
 
 -- each is at least a, and larger than the one before it
@@ -68,31 +68,31 @@ up-reads l (suc n) a h = rw (drop-cons l a 0 (omega arith)) (ap (λ (m : List �
 -- ---- those that pass a test
 
 module _ (p : ℕ → Bool) where
-  pub those-append : (l m : List ℕ) → those p (l ++ m) ≡ those p l ++ those p m
-  unfolding those
-  those-append [] m = refl
-  those-append (n ∷ l) m =
-      let r = those-append l m in
+  pub filter-append : (l m : List ℕ) → filter p (l ++ m) ≡ filter p l ++ filter p m
+  unfolding filter
+  filter-append [] m = refl
+  filter-append (n ∷ l) m =
+      let r = filter-append l m in
       cases (p n)
-      (λ t. rw (choose-true (p n) (n ∷ those p (l ++ m)) (those p (l ++ m)) t, choose-true (p n) (n ∷ those p l) (those p l) t) (ap (λ (x : List ℕ). n ∷ x) r))
-      (λ t. rw (choose-false (p n) (n ∷ those p (l ++ m)) (those p (l ++ m)) t, choose-false (p n) (n ∷ those p l) (those p l) t) r)
+      (λ t. rw (choose-true (p n) (n ∷ filter p (l ++ m)) (filter p (l ++ m)) t, choose-true (p n) (n ∷ filter p l) (filter p l) t) (ap (λ (x : List ℕ). n ∷ x) r))
+      (λ t. rw (choose-false (p n) (n ∷ filter p (l ++ m)) (filter p (l ++ m)) t, choose-false (p n) (n ∷ filter p l) (filter p l) t) r)
 
-  pub those-rise : (a : ℕ) (l : List ℕ) → RisesFrom a l → RisesFrom a (those p l)
-  unfolding those
-  those-rise a [] r = tt
-  those-rise a (n ∷ l) r =
-      let s = those-rise (suc n) l (r .1) in
-      by-test (RisesFrom a) (p n) (λ _. (r .0, s)) (λ _. rises-lower (suc n) a (those p l) (omega (arith, r .0)) s)
+  pub filter-rise : (a : ℕ) (l : List ℕ) → RisesFrom a l → RisesFrom a (filter p l)
+  unfolding filter
+  filter-rise a [] r = tt
+  filter-rise a (n ∷ l) r =
+      let s = filter-rise (suc n) l (r .1) in
+      by-test (RisesFrom a) (p n) (λ _. (r .0, s)) (λ _. rises-lower (suc n) a (filter p l) (omega (arith, r .0)) s)
 
-  pub those-pass : (l : List ℕ) → All (λ n. T (p n)) (those p l)
-  unfolding those
-  those-pass [] = tt
-  those-pass (n ∷ l) = by-test (All (λ n. T (p n))) (p n) (λ t. (t, those-pass l)) (λ _. those-pass l)
+  pub filter-pass : (l : List ℕ) → All (λ n. T (p n)) (filter p l)
+  unfolding filter
+  filter-pass [] = tt
+  filter-pass (n ∷ l) = by-test (All (λ n. T (p n))) (p n) (λ t. (t, filter-pass l)) (λ _. filter-pass l)
 
-  pub those-keep : (Q : ℕ → Type 0) (l : List ℕ) → All Q l → All Q (those p l)
-  unfolding those
-  those-keep Q [] h = tt
-  those-keep Q (n ∷ l) h = by-test (All Q) (p n) (λ _. (h .0, those-keep Q l (h .1))) (λ _. those-keep Q l (h .1))
+  pub filter-keep : (Q : ℕ → Type 0) (l : List ℕ) → All Q l → All Q (filter p l)
+  unfolding filter
+  filter-keep Q [] h = tt
+  filter-keep Q (n ∷ l) h = by-test (All Q) (p n) (λ _. (h .0, filter-keep Q l (h .1))) (λ _. filter-keep Q l (h .1))
 
 -- ---- what stands at rising places of a list is the list with some left out
 

@@ -11,25 +11,25 @@ use lib.ListN.{length, drop, length-set, length-take, length-drop}
 use lib.Seq.{getD-take, getD-drop, getD-set-same, getD-set-other}
 use lib.Arith.{digits-div}
 use Rattle.book.specs.Sizes.{Size}
-use Rattle.book.specs.Book.{Row, rowAt, marked, lead, rowOf, rowsOf, written, first, waits, readTurn}
+use Rattle.book.specs.Book.{Row, rowAt, markGone, goneBefore, rowOf, rowsOf, written, first, waits, readTurn}
 use Rattle.book.proofs.Choice.{by-test, cases, not→false, neq-test}
 
 -- ---- the first waiting row
 
-pub lead-waits : (rs : List Row) → lead rs < length rs → (rowAt rs (lead rs)) .gone ≡ false
-unfolding lead
-lead-waits [] = λ h. absurd (not-suc-le-zero h)
-lead-waits (r ∷ rs) =
-    by-test (λ m. m < suc (length rs) → (rowAt (r ∷ rs) m) .gone ≡ false) (r .gone) (λ t h. lead-waits rs (le-of-suc-le-suc h)) (λ t h. not→false (r .gone) t)
+pub goneBefore-waits : (rs : List Row) → goneBefore rs < length rs → (rowAt rs (goneBefore rs)) .gone ≡ false
+unfolding goneBefore
+goneBefore-waits [] = λ h. absurd (not-suc-le-zero h)
+goneBefore-waits (r ∷ rs) =
+    by-test (λ m. m < suc (length rs) → (rowAt (r ∷ rs) m) .gone ≡ false) (r .gone) (λ t h. goneBefore-waits rs (le-of-suc-le-suc h)) (λ t h. not→false (r .gone) t)
 
 -- where the first f rows are gone and no other, the first waiting one stands at f
-pub lead-prefix : (rs : List Row) (f : ℕ) → ((p : ℕ) → p < length rs → (rowAt rs p) .gone ≡ ltb p f) → f ≤ length rs → lead rs ≡ f
-unfolding lead
-lead-prefix [] f m h = omega arith
-lead-prefix (r ∷ rs) zero m h = rw (m 0 (omega arith)) refl
-lead-prefix (r ∷ rs) (suc f) m h =
+pub goneBefore-prefix : (rs : List Row) (f : ℕ) → ((p : ℕ) → p < length rs → (rowAt rs p) .gone ≡ ltb p f) → f ≤ length rs → goneBefore rs ≡ f
+unfolding goneBefore
+goneBefore-prefix [] f m h = omega arith
+goneBefore-prefix (r ∷ rs) zero m h = rw (m 0 (omega arith)) refl
+goneBefore-prefix (r ∷ rs) (suc f) m h =
     rw (m 0 (omega arith), leb·suc-suc 0 f, leb·zero f)
-    (ap suc (lead-prefix rs f (λ p q. m (suc p) (suc-le-suc q) ∙ leb·suc-suc (suc p) f) (le-of-suc-le-suc h)))
+    (ap suc (goneBefore-prefix rs f (λ p q. m (suc p) (suc-le-suc q) ∙ leb·suc-suc (suc p) f) (le-of-suc-le-suc h)))
 
 -- ---- the rows of a turn
 
@@ -56,7 +56,7 @@ module _ (z : Size) where
 
     pub first-waits : (rowAt rs (rowOf z t (first z rs t))) .gone ≡ false
     unfolding first written
-    first-waits = rw (← (row-place rs t (first z rs t) first-fits)) (lead-waits (rowsOf z rs t) first-written)
+    first-waits = rw (← (row-place rs t (first z rs t) first-fits)) (goneBefore-waits (rowsOf z rs t) first-written)
 
     pub first-in : rowOf z t (first z rs t) < length rs
     first-in = omega (arith, first-written, written-is rs t)
@@ -83,20 +83,20 @@ row-append (r ∷ rs) a (suc n) = row-append rs a n
 
 -- ---- a mark changes one row, and no label
 
-pub mark-length : (rs : List Row) (m : ℕ) → length (marked rs m) ≡ length rs
-unfolding marked
+pub mark-length : (rs : List Row) (m : ℕ) → length (markGone rs m) ≡ length rs
+unfolding markGone
 mark-length rs m = length-set rs m _
 
-pub mark-other : (rs : List Row) (m n : ℕ) → n ≢ m → rowAt (marked rs m) n ≡ rowAt rs n
-unfolding marked
+pub mark-other : (rs : List Row) (m n : ℕ) → n ≢ m → rowAt (markGone rs m) n ≡ rowAt rs n
+unfolding markGone
 mark-other rs m n h = getD-set-other rs m n _ _ h
 
-pub mark-same : (rs : List Row) (m : ℕ) → m < length rs → (rowAt (marked rs m) m) .gone ≡ true
-unfolding marked
+pub mark-same : (rs : List Row) (m : ℕ) → m < length rs → (rowAt (markGone rs m) m) .gone ≡ true
+unfolding markGone
 mark-same rs m h = ap (λ (r : Row). r .gone) (getD-set-same rs m _ _ h)
 
-pub mark-label : (rs : List Row) (m n : ℕ) → m < length rs → (rowAt (marked rs m) n) .label ≡ (rowAt rs n) .label
-unfolding marked
+pub mark-label : (rs : List Row) (m n : ℕ) → m < length rs → (rowAt (markGone rs m) n) .label ≡ (rowAt rs n) .label
+unfolding markGone
 mark-label rs m n h =
     cases (eqb n m)
     (λ t. rw (eqb→eq n m t) (ap (λ (r : Row). r .label) (getD-set-same rs m _ _ h)))

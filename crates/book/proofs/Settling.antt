@@ -10,7 +10,7 @@ use lib.Seq.{getD-set-same, getD-set-other}
 use Rattle.book.specs.Sizes.{Size}
 use Rattle.book.specs.Steps.{fetch, finish, desk, decode, Desk, idle, looked, claimed, fetched}
 use Rattle.book.specs.Verdicts.{admitted}
-use Rattle.book.specs.Book.{Book, deskAt, withDesk, fetchStep, finishStep, taken, deskStep, does, step, after}
+use Rattle.book.specs.Book.{Book, deskAt, withDesk, fetchStep, finishStep, deskDoes, deskStep, does, step, after}
 use Rattle.book.specs.Cases as C
 use Rattle.book.specs.Clearing.{settling}
 use Rattle.book.proofs.Choice.{cases, neq-test, neq→eqb, le→true, gt→false}
@@ -63,11 +63,11 @@ settling-length d (fetched x ∷ l) = omega (arith, settling-length (suc d) l)
 
 module _ (z : Size) (few : z .t ≤ 16) where
   step-fetch : (b : Book) (d r : ℕ) → d < z .t → deskAt b d ≡ claimed r → (step z b (C.fetch d)) .book ≡ withDesk b d (fetched r)
-  unfolding step does deskStep admitted taken fetchStep
+  unfolding step does deskStep admitted deskDoes fetchStep
   step-fetch b d r h e = rw (decode-fetch d (omega arith), e, gt→false (z .t) d h) refl
 
   step-finish : (b : Book) (d r : ℕ) → d < z .t → deskAt b d ≡ fetched r → (step z b (C.finish d)) .book ≡ withDesk b d idle
-  unfolding step does deskStep admitted taken finishStep
+  unfolding step does deskStep admitted deskDoes finishStep
   step-finish b d r h e = rw (decode-finish d (omega arith), e, gt→false (z .t) d h) refl
 
   -- ---- the walk over the desks

@@ -53,13 +53,13 @@ withDesk b d x = record { rows = b .rows; k = b .k; desks = set (b .desks) d x }
 abbrev pub append : Book → ℕ → Book
 append b a = record { rows = b .rows ++ (record { label = a; gone = false } ∷ []); k = b .k; desks = b .desks }
 
-unfoldable pub marked : List Row → ℕ → List Row
-marked rs n = set rs n (record { label = (rowAt rs n) .label; gone = true })
+unfoldable pub markGone : List Row → ℕ → List Row
+markGone rs n = set rs n (record { label = (rowAt rs n) .label; gone = true })
 
 -- how many rows stand before the first that waits
-unfoldable pub lead : List Row → ℕ
-lead [] = 0
-lead (r ∷ rs) = let more = suc (lead rs) in if r .gone then more else 0
+unfoldable pub goneBefore : List Row → ℕ
+goneBefore [] = 0
+goneBefore (r ∷ rs) = let more = suc (goneBefore rs) in if r .gone then more else 0
 
 module _ (z : Size) where
   -- ---- turns over the rows
@@ -79,7 +79,7 @@ module _ (z : Size) where
 
   -- the place of the first waiting row, and written where none waits
   unfoldable pub first : List Row → ℕ → ℕ
-  first rs t = lead (rowsOf rs t)
+  first rs t = goneBefore (rowsOf rs t)
 
   unfoldable pub waits : List Row → ℕ → Bool
   waits rs t = first rs t <ᵇ written rs t
@@ -123,7 +123,7 @@ module _ (z : Size) where
   getAt b t =
       let n = rowOf t (first (b .rows) t) in
       if waits (b .rows) t
-      then hands (record { rows = marked (b .rows) n; k = t; desks = b .desks }) (Got ((rowAt (b .rows) n) .label)) n
+      then hands (record { rows = markGone (b .rows) n; k = t; desks = b .desks }) (Got ((rowAt (b .rows) n) .label)) n
       else says (record { rows = b .rows; k = t; desks = b .desks }) (Refused Empty 0)
 
   unfoldable pub getStep : Book → Outcome
@@ -146,7 +146,7 @@ module _ (z : Size) where
   unfoldable pub claimStep : Book → ℕ → ℕ → Outcome
   claimStep b d r =
       if winnable (b .rows) (b .k) r
-      then says (record { rows = marked (b .rows) r; k = b .k; desks = set (b .desks) d (claimed r) }) (Claimed (r % z .ne))
+      then says (record { rows = markGone (b .rows) r; k = b .k; desks = set (b .desks) d (claimed r) }) (Claimed (r % z .ne))
       else says (withDesk b d idle) (Refused Lost 0)
 
   unfoldable pub fetchStep : Book → ℕ → ℕ → Outcome
@@ -156,14 +156,14 @@ module _ (z : Size) where
   finishStep b d = says (withDesk b d idle) Done
 
   -- the step of desk d, which the grid lets it take, with the row that it carries
-  unfoldable pub taken : Book → ℕ → ℕ → DeskStep → Outcome
-  taken b d r (look i) = lookStep b d i
-  taken b d r claim = claimStep b d r
-  taken b d r fetch = fetchStep b d r
-  taken b d r finish = finishStep b d
+  unfoldable pub deskDoes : Book → ℕ → ℕ → DeskStep → Outcome
+  deskDoes b d r (look i) = lookStep b d i
+  deskDoes b d r claim = claimStep b d r
+  deskDoes b d r fetch = fetchStep b d r
+  deskDoes b d r finish = finishStep b d
 
   unfoldable pub deskStep : Book → ℕ → DeskStep → Desk ℕ → Outcome
-  deskStep b d s x = judge (admitted z d s x) (taken b d (carried 0 x) s) (refuse b)
+  deskStep b d s x = judge (admitted z d s x) (deskDoes b d (carried 0 x) s) (refuse b)
 
   -- ---- a step, and runs
 
@@ -194,5 +194,5 @@ module _ (z : Size) where
   leaves b (s ∷ ss) = (step b s) .left ++ leaves ((step b s) .book) ss
 
   -- a run from opening, where the numbers are within their limits
-  unfoldable pub played : List Step → List Answer
-  played ss = if fits z then answers opened ss else Refused Unfit 0 ∷ []
+  unfoldable pub fromOpening : List Step → List Answer
+  fromOpening ss = if fits z then answers opened ss else Refused Unfit 0 ∷ []

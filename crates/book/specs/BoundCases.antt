@@ -6,7 +6,7 @@ use Rattle.words.specs.declared.Answer.{Answer}
 use Rattle.words.specs.declared.Answer.the-variants.{Put, Got, Took, Whole, Seen, Claimed, Done}
 use Rattle.words.specs.declared.Refusal.the-variants.{Lost, Empty}
 use Rattle.book.specs.Sizes.{Size}
-use Rattle.book.specs.Book.{played}
+use Rattle.book.specs.Book.{fromOpening}
 use Rattle.book.specs.Counts.{placed, won, lost, bound}
 use Rattle.book.specs.Cases.{Case, put, get, order, claim, fetch, finish, look, _⇒_, no, on}
 
@@ -46,7 +46,7 @@ boundCases =
 abbrev pub Meet : List BoundCase → Type 0
 Meet [] = Unit {0}
 Meet (c ∷ cs) =
-    let l = played (c .run .size) (c .run .steps) in
+    let l = fromOpening (c .run .size) (c .run .steps) in
     (l ≡ c .run .answers) × (numbersOf (c .run .size) l ≡ c .numbers) × Meet cs
 
 unfoldable pub BoundCases : Type 0

@@ -9,7 +9,7 @@ use Rattle.words.specs.declared.Refusal.{Refusal}
 use Rattle.words.specs.declared.Refusal.the-variants.{Unfit, Badstep, Nodesk, Noblock, Stage, Owned, Nothing, Lost, Notlabel, Range, Full, Busy, Empty}
 use Rattle.book.specs.Sizes.{Size}
 use Rattle.book.specs.Steps.{Step}
-use Rattle.book.specs.Book.{played}
+use Rattle.book.specs.Book.{fromOpening}
 
 infix 68 _⇒_
 pub record Case : Type 0 where
@@ -50,18 +50,18 @@ most = 4294967295
 
 -- ---- a case is written as its steps, each with its answer
 
-pub record Told : Type 0 where
+pub record Exchange : Type 0 where
   pub step : Step
   pub answer : Answer
 
-abbrev pub _⇒_ : Step → Answer → Told
+abbrev pub _⇒_ : Step → Answer → Exchange
 s ⇒ a = record { step = s; answer = a }
 
 abbrev pub no : Refusal → Answer
 no w = Refused w 0
 
 -- n gets hand over a, a + 1, and so on
-abbrev pub gets : ℕ → ℕ → List Told → List Told
+abbrev pub gets : ℕ → ℕ → List Exchange → List Exchange
 gets zero a l = l
 gets (suc n) a l = (get ⇒ Got a) ∷ gets n (suc a) l
 
@@ -69,7 +69,7 @@ abbrev pub sized : ℕ → ℕ → ℕ → Size
 sized nb ne t = record { nb = nb; ne = ne; t = t }
 
 -- NB, NE, T and the run
-abbrev pub on : ℕ → ℕ → ℕ → List Told → Case
+abbrev pub on : ℕ → ℕ → ℕ → List Exchange → Case
 on nb ne t l = record { size = sized nb ne t; steps = map (λ x. x .step) l; answers = map (λ x. x .answer) l }
 
 abbrev pub unfit : ℕ → ℕ → ℕ → Case
@@ -254,7 +254,7 @@ cases = marked ++ (nearlyRight ++ (letPass ++ (deskSteps ++ (puts ++ limits))))
 
 abbrev pub Hold : List Case → Type 0
 Hold [] = Unit {0}
-Hold (c ∷ cs) = (played (c .size) (c .steps) ≡ c .answers) × Hold cs
+Hold (c ∷ cs) = (fromOpening (c .size) (c .steps) ≡ c .answers) × Hold cs
 
 unfoldable pub CasesHold : Type 0
 CasesHold = Hold cases

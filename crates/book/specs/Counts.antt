@@ -39,8 +39,8 @@ placed l = total (λ a. (count a) .placed) l
 abbrev pub got : List Answer → ℕ
 got l = total (λ a. (count a) .got) l
 
-abbrev pub taken : List Answer → ℕ
-taken l = total (λ a. (count a) .fetched) l
+abbrev pub took : List Answer → ℕ
+took l = total (λ a. (count a) .fetched) l
 
 abbrev pub won : List Answer → ℕ
 won l = total (λ a. (count a) .won) l

@@ -7,7 +7,7 @@ use lib.ListN.{length}
 use Rattle.book.specs.Sizes.{Size}
 use Rattle.book.specs.Steps.{Step}
 use Rattle.book.specs.Book.{rowAt, opened, answers, after, leaves}
-use Rattle.book.specs.Counts.{placed, got, taken, won, lost, unfetched, waiting, handed, times, bound}
+use Rattle.book.specs.Counts.{placed, got, took, won, lost, unfetched, waiting, handed, times, bound}
 
 -- labels placed = got + fetched + claimed but unfetched + waiting
 unfoldable pub Counting : Type 0
@@ -15,7 +15,7 @@ Counting =
     (z : Size) (ss : List Step)
     → let l = answers z (opened z) ss in
     let b = after z (opened z) ss in
-    placed l ≡ got l + taken l + unfetched b + waiting b
+    placed l ≡ got l + took l + unfetched b + waiting b
 
 -- and the labels placed are the rows of the book
 unfoldable pub Placed : Type 0

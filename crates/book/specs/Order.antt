@@ -20,13 +20,13 @@ Increasing (n ∷ []) = Unit {0}
 Increasing (n ∷ m ∷ l) = (n < m) × Increasing (m ∷ l)
 
 -- those of a list that pass a test
-unfoldable pub those : (ℕ → Bool) → List ℕ → List ℕ
-those p [] = []
-those p (n ∷ l) = let more = those p l in if p n then n ∷ more else more
+unfoldable pub filter : (ℕ → Bool) → List ℕ → List ℕ
+filter p [] = []
+filter p (n ∷ l) = let more = filter p l in if p n then n ∷ more else more
 
 -- the rows that go: waiting before, and gone after
 unfoldable pub wentBy : List Row → List Row → List ℕ
-wentBy before after = those (λ n. not ((rowAt before n) .gone) && (rowAt after n) .gone) (upFrom (length after) 0)
+wentBy before after = filter (λ n. not ((rowAt before n) .gone) && (rowAt after n) .gone) (upFrom (length after) 0)
 
 module _ (z : Size) where
   -- the rows that go in a run, whether got or claimed
@@ -57,7 +57,7 @@ GetsInOrder = (z : Size) (ss : List Step) → Increasing (gotRows z (opened z) s
 
 -- within one turn the rows go in order of place
 unfoldable pub GoesInOrder : Type 0
-GoesInOrder = (z : Size) (ss : List Step) (t : ℕ) → Increasing (those (λ n. n / z .ne ≡ᵇ t) (wentRows z (opened z) ss))
+GoesInOrder = (z : Size) (ss : List Step) (t : ℕ) → Increasing (filter (λ n. n / z .ne ≡ᵇ t) (wentRows z (opened z) ss))
 
 -- where no claim is won, the labels that come out are the first that went in, in order
 unfoldable pub FirstInFirstOut : Type 0

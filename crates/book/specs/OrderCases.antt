@@ -9,7 +9,7 @@ use Rattle.words.specs.declared.Refusal.the-variants.{Owned, Lost, Full, Busy, 
 use Rattle.book.specs.Choice.{_≡ᵇ_}
 use Rattle.book.specs.Steps.{Step}
 use Rattle.book.specs.Book.{opened, answers, after}
-use Rattle.book.specs.Order.{Increasing, those, gotRows, wentRows, gotLabels, placedLabels}
+use Rattle.book.specs.Order.{Increasing, filter, gotRows, wentRows, gotLabels, placedLabels}
 use Rattle.book.specs.Clearing.{clearing}
 use Rattle.book.specs.Cases.{Case, put, get, order, claim, fetch, finish, look, _⇒_, no, on}
 
@@ -33,7 +33,7 @@ listsOf c =
     record {
       got = gotRows (c .size) b (c .steps);
       went = wentRows (c .size) b (c .steps);
-      wentInTurn1 = those (λ n. n / c .size .ne ≡ᵇ 1) (wentRows (c .size) b (c .steps));
+      wentInTurn1 = filter (λ n. n / c .size .ne ≡ᵇ 1) (wentRows (c .size) b (c .steps));
       labelsOut = gotLabels (c .steps) (c .answers);
       labelsIn = placedLabels (c .steps) (c .answers);
       clears = clearing e;

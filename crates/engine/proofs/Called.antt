@@ -26,7 +26,7 @@ use Rattle.rules.specs.Lent.{lineOf}
 use Rattle.rules.specs.Promises.{Checks}
 use Rattle.rules.proofs.Lent.{lent-length}
 use Rattle.rules.proofs.Entries.{lent-checked}
-use Rattle.engine.specs.Lent.{Given, gave}
+use Rattle.engine.specs.Lent.{Given, backOf}
 use Rattle.engine.specs.Promises.{Ready}
 use Rattle.engine.proofs.Lent.{refused}
 use Rattle.engine.proofs.Takes.{taken-refused}
@@ -40,13 +40,13 @@ module _ (h : Head) (t : List Block) (n : ℕ) (es : List ℕ) where
 
   -- what a call gives that the check stops, and one that it lets go on to the line with its NB records
   pub record Stops (w : Refusal) : Type 0 where
-    pub step-is : (s : Step) → record { answer = Refused w 0; head = h; table = t; entries = es } ≡ gave t n (step l s)
-    pub order-is : (a b : ℕ) → record { answer = Refused w 0; head = h; table = t; entries = es } ≡ gave t n (orders l a b)
+    pub step-is : (s : Step) → record { answer = Refused w 0; head = h; table = t; entries = es } ≡ backOf t n (step l s)
+    pub order-is : (a b : ℕ) → record { answer = Refused w 0; head = h; table = t; entries = es } ≡ backOf t n (orders l a b)
 
   pub record Goes : Type 0 where
     pub ready : Ready h t es
-    pub step-is : (s : Step) (d : Deed) (o : Given Answer) → d ≡ decode s → o ≡ gave t (h .nb) (does z (lineOf h t (h .nb) es) d) → o ≡ gave t n (step l s)
-    pub order-is : (a b : ℕ) (o : Given Answer) → o ≡ gave t (h .nb) (orderStep z (lineOf h t (h .nb) es) a b) → o ≡ gave t n (orders l a b)
+    pub step-is : (s : Step) (d : Deed) (o : Given Answer) → d ≡ decode s → o ≡ backOf t (h .nb) (does z (lineOf h t (h .nb) es) d) → o ≡ backOf t n (step l s)
+    pub order-is : (a b : ℕ) (o : Given Answer) → o ≡ backOf t (h .nb) (orderStep z (lineOf h t (h .nb) es) a b) → o ≡ backOf t n (orders l a b)
 
   says-sound : (c : Checked) → Says l c → takes ≡ passes c → Fit l × Sound l
   says-sound sound f e = f
@@ -66,8 +66,8 @@ module _ (h : Head) (t : List Block) (n : ℕ) (es : List ℕ) where
     on-line : Goes
     on-line = record {
       ready = lawfully;
-      step-is = λ s d o q p. subst⁻¹ (λ (k : ℕ). o ≡ gave t k (step (lineOf h t k es) s)) all-lent (rw (step-does (lineOf h t (h .nb) es) s (lawfully .fits) (lawfully .sound), ← q) p);
-      order-is = λ a b o p. subst⁻¹ (λ (k : ℕ). o ≡ gave t k (orders (lineOf h t k es) a b)) all-lent (rw (orders-does (lineOf h t (h .nb) es) a b (lawfully .fits) (lawfully .sound)) p);
+      step-is = λ s d o q p. subst⁻¹ (λ (k : ℕ). o ≡ backOf t k (step (lineOf h t k es) s)) all-lent (rw (step-does (lineOf h t (h .nb) es) s (lawfully .fits) (lawfully .sound), ← q) p);
+      order-is = λ a b o p. subst⁻¹ (λ (k : ℕ). o ≡ backOf t k (orders (lineOf h t k es) a b)) all-lent (rw (orders-does (lineOf h t (h .nb) es) a b (lawfully .fits) (lawfully .sound)) p);
     }
 
   -- c is what the check said, of as many entries as there are, and v what that lets pass

@@ -17,10 +17,10 @@ use Rattle.line.specs.declared.Head.{Head}
 use Rattle.line.specs.Line.{Line, Spot, unused, sizeOf, getAt, recordOf, entryOf, labelAt, reach, readAt, getStep}
 use Rattle.line.proofs.Cells.{cell}
 use Rattle.rules.specs.Lent.{lineOf}
-use Rattle.engine.specs.Lent.{gave}
+use Rattle.engine.specs.Lent.{backOf}
 use Rattle.engine.specs.Promises.{Ready}
 use Rattle.engine.specs.Owning.{movesOn}
-use Rattle.engine.proofs.Lent.{gave-lent, refused}
+use Rattle.engine.proofs.Lent.{back-lent, refused}
 use Rattle.engine.proofs.Ready.{next-block, blocks, record-at}
 
 abbrev at : ℕ → ℕ → Spot
@@ -119,15 +119,15 @@ module _ (h : Head) (t : List Block) (es : List ℕ) where
       stopped : getStep z l ≡ readAt z l (at k place)
       stopped = s .more ∙ ap (readAt z l) (reach-stays z (l .table) (h .p) k place (h .nb - 1 - (k - h .k)) (sym same-moves ∙ e))
 
-      pub empty : b .written ≤ place → record { answer = Refused Empty 0; head = getAt h (at k place); table = t; entries = es } ≡ gave t (h .nb) (getStep z l)
+      pub empty : b .written ≤ place → record { answer = Refused Empty 0; head = getAt h (at k place); table = t; entries = es } ≡ backOf t (h .nb) (getStep z l)
       unfolding readAt
       empty w = rw (stopped, ← s .here, ge→false place (b .written) w) (refused (getAt h (at k place)) t (h .nb) es Empty)
 
       pub got : (label : ℕ) → place < b .written → label ≡ getD es (i * h .ne + place) 0
-          → record { answer = Got label; head = getAt h (at k (place + 1)); table = t; entries = es } ≡ gave t (h .nb) (getStep z l)
+          → record { answer = Got label; head = getAt h (at k (place + 1)); table = t; entries = es } ≡ backOf t (h .nb) (getStep z l)
       unfolding readAt labelAt entryOf
       got label w f =
-          rw (stopped, ← s .here, lt→true place (b .written) w, add-one, f, s .block) (gave-lent (h .nb) few t t (getAt h (at k (suc place))) es (Got (labelAt z es (at k place))) refl)
+          rw (stopped, ← s .here, lt→true place (b .written) w, add-one, f, s .block) (back-lent (h .nb) few t t (getAt h (at k (suc place))) es (Got (labelAt z es (at k place))) refl)
 
     pub place-below : place < b .written → place < h .ne
     place-below w =

@@ -14,7 +14,7 @@ use Rattle.line.specs.declared.Head.{Head}
 use Rattle.line.specs.Line.{says, refuse}
 use Rattle.rules.specs.Lent.{lentTable, lineOf}
 use Rattle.rules.proofs.Lent.{lent-take}
-use Rattle.engine.specs.Lent.{putBack, gave}
+use Rattle.engine.specs.Lent.{putBack, backOf}
 
 module _ (n : ℕ) (few : n ≤ 64) where
   pub lent-set : (t : List Block) (i : ℕ) (c : Block) → i < n → lentTable (set t i c) n ≡ set (lentTable t n) i c
@@ -29,9 +29,9 @@ module _ (n : ℕ) (few : n ≤ 64) where
   put-set t i c h = rw (← lent-set t i c h) (put-back t (set t i c) (drop-set-lt n t i c h))
 
   -- what a call gives back that leaves the others
-  pub gave-lent : (t u : List Block) (h : Head) (es : List ℕ) (a : Answer) → drop n u ≡ drop n t
-      → record { answer = a; head = h; table = u; entries = es } ≡ gave t n (says (lineOf h u n es) a)
-  gave-lent t u h es a e = rw (put-back t u e)
+  pub back-lent : (t u : List Block) (h : Head) (es : List ℕ) (a : Answer) → drop n u ≡ drop n t
+      → record { answer = a; head = h; table = u; entries = es } ≡ backOf t n (says (lineOf h u n es) a)
+  back-lent t u h es a e = rw (put-back t u e)
 
 -- ---- however many records were lent, also where they fit no line
 
@@ -41,5 +41,5 @@ put-lent t n = cases (leb n 64) (λ s. put-back n (leb→le n 64 s) t t refl) (�
 
 -- a refusal gives back what came
 pub refused : (h : Head) (t : List Block) (n : ℕ) (es : List ℕ) (w : Refusal)
-    → record { answer = Refused w 0; head = h; table = t; entries = es } ≡ gave t n (refuse (lineOf h t n es) w)
+    → record { answer = Refused w 0; head = h; table = t; entries = es } ≡ backOf t n (refuse (lineOf h t n es) w)
 refused h t n es w = ap (λ (u : List Block). record { answer = Refused w 0; head = h; table = u; entries = es }) (sym (put-lent t n))

@@ -10,7 +10,7 @@ use Rattle.book.specs.Steps.{look, idle}
 use Rattle.book.specs.Verdicts.{Verdict, takes, refuses, judge, admitted, lookable}
 use Rattle.book.proofs.Choice.{cases, not→false, gt→false}
 use Rattle.book.proofs.Turns.{current-block}
-use Rattle.line.specs.Line.{Line, Outcome, Spot, sizeOf, refuse, unused, recordOf, lookStep, taken, deskStep}
+use Rattle.line.specs.Line.{Line, Outcome, Spot, sizeOf, refuse, unused, recordOf, lookStep, deskDoes, deskStep}
 use Rattle.line.specs.Survey.{isSeen, bit}
 use Rattle.engine.specs.Stepping.{waits, mayLook}
 
@@ -53,7 +53,7 @@ module _ (l : Line) where
       (λ u. rw (not→false (leb i p) u) refl)
 
   pub seen-is : (i : ℕ) → 0 < l .head .t → i < l .head .nb → sees i ≡ seen (mayLook (l .head .nb) p k i (getD (l .table) i unused))
-  unfolding deskStep taken lookStep
+  unfolding deskStep deskDoes lookStep
   seen-is i h b =
       rw (look-admitted i h b)
       (seen-judge (lookable z p k i (waits (recordOf z (l .table) (currentTurn z p i)))) l _ refl ∙ ap seen (look-here i b))

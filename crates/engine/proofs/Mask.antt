@@ -12,7 +12,7 @@ use lib.Pow.{pow-mono}
 use Rattle.book.specs.Choice.{if_then_else_}
 use Rattle.book.specs.Total.{total}
 use Rattle.line.specs.declared.Surveyed.the-variants.{Survey}
-use Rattle.line.specs.declared.Views.{Views}
+use Rattle.line.specs.declared.Findings.{Findings}
 use Rattle.line.specs.Survey.{bit, maskOf, lowestFrom, views}
 use Rattle.line.proofs.Survey.{bit-le}
 
@@ -48,7 +48,7 @@ mask-lowest (x ∷ bs) (suc k) i h e =
     ∙ first-or x i (trailingZeros k (maskOf bs)) (lowestFrom (suc i) bs) (mask-lowest bs k (suc i) (omega arith) (omega arith))
 
 -- what a survey says of its mask
-abbrev pub told : ℕ → Views
+abbrev pub told : ℕ → Findings
 told m = record { answer = Survey; mask = m; count = ones m; lowest = trailingZeros 64 m }
 
 pub told-views : (bs : List Bool) → length bs ≤ 64 → told (maskOf bs) ≡ views bs

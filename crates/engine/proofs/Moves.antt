@@ -21,15 +21,15 @@ use Rattle.book.proofs.Turns.{current-block}
 use Rattle.line.specs.declared.Block.{Block}
 use Rattle.line.specs.declared.Desk.{Desk as LentDesk}
 use Rattle.line.specs.declared.Head.{Head}
-use Rattle.line.specs.Line.{Line, Spot, nowhere, says, refuse, lent, deskOf, deskAt, withHead, withDesk, unused, oneClaimed, oneFinished, sizeOf, recordOf}
-use Rattle.line.specs.Line.{entryOf, labelAt, winnable, lookStep, claimStep, fetchStep, finishStep, taken, deskStep}
+use Rattle.line.specs.Line.{Line, Spot, nowhere, says, refuse, numbersOf, deskOf, deskAt, withHead, withDesk, unused, oneClaimed, oneFinished, sizeOf, recordOf}
+use Rattle.line.specs.Line.{entryOf, labelAt, winnable, lookStep, claimStep, fetchStep, finishStep, deskDoes, deskStep}
 use Rattle.line.specs.Rules.{DeskRule}
 use Rattle.line.proofs.Current.{current→window}
 use Rattle.line.proofs.Cells.{cell}
 use Rattle.rules.specs.Lent.{lentTable, lineOf}
 use Rattle.rules.specs.Checking.{spotOf}
 use Rattle.rules.proofs.Lent.{lent-at}
-use Rattle.engine.specs.Lent.{putBack, Given, gave}
+use Rattle.engine.specs.Lent.{putBack, Given, backOf}
 use Rattle.engine.specs.Promises.{Ready}
 use Rattle.engine.specs.Owning.{sized, Stands}
 use Rattle.engine.specs.declared.desks.Moved.{Moved}
@@ -101,7 +101,7 @@ module _ (h : Head) (t : List Block) (es : List ℕ) (r : Ready h t es) where
   -- ---- desk d
   module _ (d : ℕ) where
     abbrev x : LentDesk
-    x = getD (h .desks) d (lent idle)
+    x = getD (h .desks) d (numbersOf idle)
 
     pub desk-in : d < h .t → d < 16
     desk-in b = let v = sizes h t es r in omega arith
@@ -129,12 +129,12 @@ module _ (h : Head) (t : List Block) (es : List ℕ) (r : Ready h t es) where
     -- ---- look, with the verdict v on block i and the spot o that is seen there
 
     look-by : (i : ℕ) (v : Verdict) (o : Spot)
-        → kept i (judge v (leaves (Seen (o .place)) (lent (looked o)) (getD t i unused)) (λ w. leaves (Refused w 0) x (getD t i unused)))
-        ≡ gave t (h .nb) (judge v (says (withHead l (withDesk h d (looked o))) (Seen (o .place))) (refuse l))
+        → kept i (judge v (leaves (Seen (o .place)) (numbersOf (looked o)) (getD t i unused)) (λ w. leaves (Refused w 0) x (getD t i unused)))
+        ≡ backOf t (h .nb) (judge v (says (withHead l (withDesk h d (looked o))) (Seen (o .place))) (refuse l))
     look-by i takes o = rw (kept-record i) refl
-    look-by i (refuses w) o = rw (kept-record i, set-getD (h .desks) d (lent idle)) refl
+    look-by i (refuses w) o = rw (kept-record i, set-getD (h .desks) d (numbersOf idle)) refl
 
-    look-kept : (i : ℕ) → i < h .nb → kept i (lookOf (h .nb) (h .p) (h .k) i (getD t i unused) x) ≡ gave t (h .nb) (lookStep z l d i)
+    look-kept : (i : ℕ) → i < h .nb → kept i (lookOf (h .nb) (h .p) (h .k) i (getD t i unused) x) ≡ backOf t (h .nb) (lookStep z l d i)
     unfolding lookOf lookStep lookable isOwned currentTurn
     look-kept i b =
         let turn = currentTurn z (h .p) i in
@@ -158,18 +158,18 @@ module _ (h : Head) (t : List Block) (es : List ℕ) (r : Ready h t es) where
     unfolding wins winnable isOwned currentTurn
     same-win = rw (record-at h t es r (x .turn) i refl) refl
 
-    claim-kept : kept i (claimOf (h .nb) (h .p) (h .k) c x) ≡ gave t (h .nb) (claimStep z l d (spotOf x))
+    claim-kept : kept i (claimOf (h .nb) (h .p) (h .k) c x) ≡ backOf t (h .nb) (claimStep z l d (spotOf x))
     unfolding claimOf claimStep
     claim-kept =
-        by-test₂ (λ m o. kept i m ≡ gave t (h .nb) o) (wins (h .nb) (h .p) (h .k) c x) (winnable z l (spotOf x)) same-win
+        by-test₂ (λ m o. kept i m ≡ backOf t (h .nb) o) (wins (h .nb) (h .p) (h .k) c x) (winnable z l (spotOf x)) same-win
         (λ _. rw (new-record (x .turn) (oneClaimed c), record-at h t es r (x .turn) i refl) refl)
         (λ _. rw (kept-record i) refl)
 
-    fetch-kept : kept i (fetchOf c x (getD es (i * h .ne + x .place) 0)) ≡ gave t (h .nb) (fetchStep z l d (spotOf x))
+    fetch-kept : kept i (fetchOf c x (getD es (i * h .ne + x .place) 0)) ≡ backOf t (h .nb) (fetchStep z l d (spotOf x))
     unfolding fetchStep labelAt entryOf
     fetch-kept = rw (kept-record i) refl
 
-    finish-kept : kept i (finishOf c) ≡ gave t (h .nb) (finishStep z l d (spotOf x))
+    finish-kept : kept i (finishOf c) ≡ backOf t (h .nb) (finishStep z l d (spotOf x))
     unfolding finishStep
     finish-kept = rw (new-record (x .turn) (oneFinished c), record-at h t es r (x .turn) i refl) refl
 
@@ -181,8 +181,8 @@ module _ (h : Head) (t : List Block) (es : List ℕ) (r : Ready h t es) where
     abbrev moved : DeskStep → ℕ → Moved
     moved s i = movedBy s (h .nb) (h .ne) (h .p) (h .k) es i (getD t i unused) x
 
-    taken-kept : (s : DeskStep) → takes ≡ mayStep (h .nb) (x .stage) s → kept (read s) (moved s (read s)) ≡ gave t (h .nb) (taken z l d (carried nowhere (deskOf x)) s)
-    unfolding movedBy taken
+    taken-kept : (s : DeskStep) → takes ≡ mayStep (h .nb) (x .stage) s → kept (read s) (moved s (read s)) ≡ backOf t (h .nb) (deskDoes z l d (carried nowhere (deskOf x)) s)
+    unfolding movedBy deskDoes
     taken-kept (look i) e = look-kept i (read-in (h .nb) (x .stage) (x .turn) (look i) (blocks h t es r .0) e)
     taken-kept claim e = rw (carries x stage-in 0 e) claim-kept
     taken-kept fetch e = rw (carries x stage-in 1 e) fetch-kept
@@ -190,7 +190,7 @@ module _ (h : Head) (t : List Block) (es : List ℕ) (r : Ready h t es) where
 
     module _ (s : DeskStep) where
       abbrev after : Given Answer
-      after = gave t (h .nb) (deskStep z l d s (deskAt h d))
+      after = backOf t (h .nb) (deskStep z l d s (deskAt h d))
 
       refused-by : (w : Refusal) → admitted z d s (deskOf x) ≡ refuses w → record { answer = Refused w 0; head = h; table = t; entries = es } ≡ after
       unfolding deskStep

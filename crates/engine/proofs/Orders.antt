@@ -19,9 +19,9 @@ use Rattle.line.specs.Line.{Outcome, sizeOf, putAt, putMany, orderStep}
 use Rattle.line.proofs.Cells.{entries-of}
 use Rattle.rules.specs.Lent.{lineOf}
 use Rattle.engine.specs.declared.owner.Room.{Room}
-use Rattle.engine.specs.Lent.{gave}
+use Rattle.engine.specs.Lent.{backOf}
 use Rattle.engine.specs.Promises.{Ready}
-use Rattle.engine.proofs.Lent.{gave-lent, refused}
+use Rattle.engine.proofs.Lent.{back-lent, refused}
 use Rattle.engine.proofs.Ready.{blocks}
 use Rattle.engine.proofs.Puts.{Reads, Writes, verdict, room-block, kept, ready-after, many-taken, many-refused}
 
@@ -39,7 +39,7 @@ module _ (h : Head) (t₀ : List Block) (es₀ : List ℕ) (a b : ℕ) where
   abbrev out : Outcome
   out = orderStep z (lineOf h t₀ (h .nb) es₀) a b
 
-  pub order-range : isOrder a b ≡ false → record { answer = Refused Range 0; head = h; table = t₀; entries = es₀ } ≡ gave t₀ (h .nb) out
+  pub order-range : isOrder a b ≡ false → record { answer = Refused Range 0; head = h; table = t₀; entries = es₀ } ≡ backOf t₀ (h .nb) out
   unfolding orderStep
   order-range e = rw e (refused h t₀ (h .nb) es₀ Range)
 
@@ -77,20 +77,20 @@ module _ (h : Head) (t₀ : List Block) (es₀ : List ℕ) (a b : ℕ) where
     pub as-long : Ready h t₀ es₀ → length es ≡ length es₀
     as-long r = entries-of z (lineOf (putAt h p) t (h .nb) es) (s .ready) ∙ sym (entries-of z (lineOf h t₀ (h .nb) es₀) r)
 
-    pub whole : b < label → record { answer = Whole (label - a); head = putAt h p; table = t; entries = es } ≡ gave t₀ (h .nb) out
+    pub whole : b < label → record { answer = Whole (label - a); head = putAt h p; table = t; entries = es } ≡ backOf t₀ (h .nb) out
     unfolding putMany
     whole k =
         let e : suc b - label ≡ 0 = omega arith in
-        rw (s .more, e) (gave-lent (h .nb) few t₀ t (putAt h p) es (Whole (label - a)) (s .others))
+        rw (s .more, e) (back-lent (h .nb) few t₀ t (putAt h p) es (Whole (label - a)) (s .others))
 
     module _ (k : label ≤ b) {j : ℕ} (x : Reads (putAt h p) t es i j) where
       up : suc b - label ≡ suc (b - label)
       up = omega arith
 
       pub stopped : (w : Refusal) → verdict x label ≡ refuses w
-          → record { answer = Refused w (label - a); head = putAt h p; table = t; entries = es } ≡ gave t₀ (h .nb) out
+          → record { answer = Refused w (label - a); head = putAt h p; table = t; entries = es } ≡ backOf t₀ (h .nb) out
       stopped w e =
-          rw (s .more, up, many-refused x label w e (b - label) (label - a)) (gave-lent (h .nb) few t₀ t (putAt h p) es (Refused w (label - a)) (s .others))
+          rw (s .more, up, many-refused x label w e (b - label) (label - a)) (back-lent (h .nb) few t₀ t (putAt h p) es (Refused w (label - a)) (s .others))
 
       pub one-more : verdict x label ≡ takes → {g : Room} {fs : List ℕ} → Writes (putAt h p) t es i j label g fs
           → Placed (g .turn) (set t (g .block) (g .after)) fs (g .block) (label + 1)

@@ -17,15 +17,15 @@ use Rattle.book.specs.Verdicts.{Verdict, takes, refuses, startable, placeable}
 use Rattle.book.proofs.Choice.{by-test, cases, T→true, not→false, ge→false}
 use Rattle.line.specs.declared.Block.{Block}
 use Rattle.line.specs.declared.Head.{Head}
-use Rattle.line.specs.Line.{Line, says, unused, sizeOf, recordOf, entryOf, putAt, isBusy, mayPut, labelled, stored, putStep, putMany}
+use Rattle.line.specs.Line.{Line, says, unused, sizeOf, recordOf, entryOf, putAt, isBusy, mayPut, labelled, withLabel, putStep, putMany}
 use Rattle.line.specs.Agrees.{Lawful}
 use Rattle.line.proofs.Sound.{stored-lawful}
 use Rattle.rules.specs.Lent.{lineOf}
 use Rattle.engine.specs.declared.owner.Room.{Room}
-use Rattle.engine.specs.Lent.{gave}
+use Rattle.engine.specs.Lent.{backOf}
 use Rattle.engine.specs.Promises.{Ready}
 use Rattle.engine.specs.Owning.{sized, mayPlace, roomOf, Stands}
-use Rattle.engine.proofs.Lent.{lent-set, gave-lent, refused}
+use Rattle.engine.proofs.Lent.{lent-set, back-lent, refused}
 use Rattle.engine.proofs.Ready.{next-block, sizes, blocks, turns, block-below, record-at, stands}
 use Rattle.engine.proofs.Takes.{taken-refused}
 
@@ -119,7 +119,7 @@ module _ {h : Head} {t : List Block} {es : List ℕ} {i j : ℕ} (x : Reads h t 
 
     -- ---- it is refused
     module _ (w : Refusal) (e : verdict ≡ refuses w) where
-      pub put-refused : record { answer = Refused w 0; head = h; table = t; entries = es } ≡ gave t (h .nb) (putStep z l a)
+      pub put-refused : record { answer = Refused w 0; head = h; table = t; entries = es } ≡ backOf t (h .nb) (putStep z l a)
       unfolding putStep
       put-refused = rw (← may-put, e) (refused h t (h .nb) es w)
 
@@ -156,15 +156,15 @@ module _ {h : Head} {t : List Block} {es : List ℕ} {i j : ℕ} (x : Reads h t 
         below : g .block < h .nb
         below = block-below h t es (x .ready) (g .turn) (g .block) at .0
 
-        stored-goes : stored z l a ≡ goes g
-        unfolding stored roomOf
+        stored-goes : withLabel z l a ≡ goes g
+        unfolding withLabel roomOf
         stored-goes = rw (← record-here) (of-choice goes (current .written <ᵇ h .ne) _ _) ∙ ap goes (sym (y .room))
 
         goes-after : goes g ≡ after
         unfolding entryOf
         goes-after = rw (y .entries, ← at, lent-set (h .nb) few t (g .block) (g .after) below)
 
-        stored-after : stored z l a ≡ after
+        stored-after : withLabel z l a ≡ after
         stored-after = stored-goes ∙ goes-after
 
         pub ready-after : Ready (putAt h (g .turn)) (set t (g .block) (g .after)) fs
@@ -174,9 +174,9 @@ module _ {h : Head} {t : List Block} {es : List ℕ} {i j : ℕ} (x : Reads h t 
         pub kept : drop (h .nb) (set t (g .block) (g .after)) ≡ drop (h .nb) t
         kept = drop-set-lt (h .nb) t (g .block) (g .after) below
 
-        pub put-taken : record { answer = Put a; head = putAt h (g .turn); table = set t (g .block) (g .after); entries = fs } ≡ gave t (h .nb) (putStep z l a)
+        pub put-taken : record { answer = Put a; head = putAt h (g .turn); table = set t (g .block) (g .after); entries = fs } ≡ backOf t (h .nb) (putStep z l a)
         unfolding putStep
-        put-taken = rw (← may-put, e, stored-after) (gave-lent (h .nb) few t (set t (g .block) (g .after)) (putAt h (g .turn)) fs (Put a) kept)
+        put-taken = rw (← may-put, e, stored-after) (back-lent (h .nb) few t (set t (g .block) (g .after)) (putAt h (g .turn)) fs (Put a) kept)
 
         pub many-taken : (n count : ℕ) → putMany z (suc n) l a count ≡ putMany z n after (suc a) (suc count)
         unfolding putMany

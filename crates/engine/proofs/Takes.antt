@@ -14,7 +14,7 @@ use Rattle.book.specs.Verdicts.{takes, refuses, grid, stage, atStage}
 use Rattle.line.specs.declared.Desk.{Desk as LentDesk}
 use Rattle.line.specs.Line.{Spot, nowhere, deskOf}
 use Rattle.rules.specs.Checking.{spotOf}
-use Rattle.engine.specs.Stepping.{numberOf}
+use Rattle.engine.specs.Stepping.{gridNumber}
 
 -- what holds of each number below four
 four : (P : ℕ → Type 0) → P 0 → P 1 → P 2 → P 3 → (n : ℕ) → n < 4 → P n
@@ -36,21 +36,21 @@ cells P c n m h k =
     (four (P 3) (c .3 .0) (c .3 .1) (c .3 .2) (c .3 .3) m k) n h
 
 abbrev numbers : List (List ℕ)
-numbers = map (map numberOf) grid
+numbers = map (map gridNumber) grid
 
-pub grid-number : (n m : ℕ) → n < 4 → m < 4 → getD (getD numbers n []) m 0 ≡ numberOf (atStage n m)
-grid-number = cells (λ n m. getD (getD numbers n []) m 0 ≡ numberOf (atStage n m)) ((refl, refl, refl, refl), (refl, refl, refl, refl), (refl, refl, refl, refl), (refl, refl, refl, refl))
+pub grid-number : (n m : ℕ) → n < 4 → m < 4 → getD (getD numbers n []) m 0 ≡ gridNumber (atStage n m)
+grid-number = cells (λ n m. getD (getD numbers n []) m 0 ≡ gridNumber (atStage n m)) ((refl, refl, refl, refl), (refl, refl, refl, refl), (refl, refl, refl, refl), (refl, refl, refl, refl))
 
-grid-says : (n m : ℕ) → n < 4 → m < 4 → (if numberOf (atStage n m) ≡ᵇ 0 then takes else refuses Stage) ≡ atStage n m
-grid-says = cells (λ n m. (if numberOf (atStage n m) ≡ᵇ 0 then takes else refuses Stage) ≡ atStage n m) ((refl, refl, refl, refl), (refl, refl, refl, refl), (refl, refl, refl, refl), (refl, refl, refl, refl))
+grid-says : (n m : ℕ) → n < 4 → m < 4 → (if gridNumber (atStage n m) ≡ᵇ 0 then takes else refuses Stage) ≡ atStage n m
+grid-says = cells (λ n m. (if gridNumber (atStage n m) ≡ᵇ 0 then takes else refuses Stage) ≡ atStage n m) ((refl, refl, refl, refl), (refl, refl, refl, refl), (refl, refl, refl, refl), (refl, refl, refl, refl))
 
 -- what a number that was read from the grid says
-module _ (n m : ℕ) (h : n < 4) (k : m < 4) (r : ℕ) (e : r ≡ numberOf (atStage n m)) where
+module _ (n m : ℕ) (h : n < 4) (k : m < 4) (r : ℕ) (e : r ≡ gridNumber (atStage n m)) where
   pub stage-takes : r ≡ 0 → takes ≡ atStage n m
-  stage-takes q = rw (eq-eqb (numberOf (atStage n m)) 0 (sym e ∙ q)) at (grid-says n m h k)
+  stage-takes q = rw (eq-eqb (gridNumber (atStage n m)) 0 (sym e ∙ q)) at (grid-says n m h k)
 
   pub stage-refuses : (r ≡ 0 → ⊥) → refuses Stage ≡ atStage n m
-  stage-refuses q = rw (ne-eqb (numberOf (atStage n m)) 0 (λ d. q (e ∙ d))) at (grid-says n m h k)
+  stage-refuses q = rw (ne-eqb (gridNumber (atStage n m)) 0 (λ d. q (e ∙ d))) at (grid-says n m h k)
 
 -- ---- a desk by the number of its stage
 

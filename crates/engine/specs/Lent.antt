@@ -7,7 +7,7 @@ use Rattle.book.specs.Choice.{if_then_else_, _≤ᵇ_}
 use Rattle.line.specs.declared.Block.{Block}
 use Rattle.line.specs.declared.Head.{Head}
 use Rattle.line.specs.Line.{Outcome}
-use Rattle.engine.specs.declared.Went.{Went}
+use Rattle.engine.specs.declared.Outcome.{Outcome as OutcomeByValue}
 
 -- the lent records put back in front of the others
 unfoldable pub putBack : List Block → ℕ → List Block → List Block
@@ -20,8 +20,8 @@ pub record Given (A : Type 0) : Type 0 where
   pub table : List Block
   pub entries : List ℕ
 
-abbrev pub given : Went → List ℕ → Given Answer
-given r es = record { answer = r .answer; head = r .head; table = r .table; entries = es }
+abbrev pub givenBack : OutcomeByValue → List ℕ → Given Answer
+givenBack r es = record { answer = r .answer; head = r .head; table = r .table; entries = es }
 
-abbrev pub gave : List Block → ℕ → Outcome → Given Answer
-gave t n o = record { answer = o .answer; head = o .line .head; table = putBack t n (o .line .table); entries = o .line .entries }
+abbrev pub backOf : List Block → ℕ → Outcome → Given Answer
+backOf t n o = record { answer = o .answer; head = o .line .head; table = putBack t n (o .line .table); entries = o .line .entries }

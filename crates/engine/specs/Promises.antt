@@ -7,24 +7,24 @@ use lib.ListN.{replicate}
 use Rattle.book.specs.Steps.{Step}
 use Rattle.line.specs.declared.Block.{Block}
 use Rattle.line.specs.declared.Head.{Head}
-use Rattle.line.specs.declared.Views.{Views}
+use Rattle.line.specs.declared.Findings.{Findings}
 use Rattle.line.specs.Line.{sizeOf}
 use Rattle.line.specs.Calls.{step, orders}
 use Rattle.line.specs.Survey.{survey}
 use Rattle.line.specs.Agrees.{Lawful}
 use Rattle.rules.specs.Lent.{lineOf}
-use Rattle.engine.specs.declared.Went.{Went}
-use Rattle.engine.specs.Lent.{given, gave}
+use Rattle.engine.specs.declared.Outcome.{Outcome as OutcomeByValue}
+use Rattle.engine.specs.Lent.{givenBack, backOf}
 
 -- the survey reads no entry: any m entries
-abbrev pub Surveys : Head → List Block → ℕ → ℕ → Views → Type 0
+abbrev pub Surveys : Head → List Block → ℕ → ℕ → Findings → Type 0
 Surveys h t n m r = r ≡ survey (lineOf h t n (replicate m 0))
 
-abbrev pub Steps : Head → List Block → ℕ → List ℕ → Step → Went → List ℕ → Type 0
-Steps h t n es s r after = given r after ≡ gave t n (step (lineOf h t n es) s)
+abbrev pub Steps : Head → List Block → ℕ → List ℕ → Step → OutcomeByValue → List ℕ → Type 0
+Steps h t n es s r after = givenBack r after ≡ backOf t n (step (lineOf h t n es) s)
 
-abbrev pub Orders : Head → List Block → ℕ → List ℕ → ℕ → ℕ → Went → List ℕ → Type 0
-Orders h t n es a e r after = given r after ≡ gave t n (orders (lineOf h t n es) a e)
+abbrev pub Orders : Head → List Block → ℕ → List ℕ → ℕ → ℕ → OutcomeByValue → List ℕ → Type 0
+Orders h t n es a e r after = givenBack r after ≡ backOf t n (orders (lineOf h t n es) a e)
 
 -- a sound line, lent with its NB records
 abbrev pub Ready : Head → List Block → List ℕ → Type 0

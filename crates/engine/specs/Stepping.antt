@@ -14,7 +14,7 @@ use Rattle.book.specs.Steps.{DeskStep, look, claim, fetch, finish, Deed, put, g
 use Rattle.book.specs.Verdicts.{Verdict, takes, refuses, judge, column, atStage, noBlock, lookable}
 use Rattle.line.specs.declared.Block.{Block}
 use Rattle.line.specs.declared.Desk.{Desk as LentDesk}
-use Rattle.line.specs.Line.{lent, oneClaimed, oneFinished}
+use Rattle.line.specs.Line.{numbersOf, oneClaimed, oneFinished}
 use Rattle.rules.specs.Checking.{spotOf}
 use Rattle.engine.specs.Owning.{sized}
 use Rattle.engine.specs.declared.desks.DeskStep.{DeskStep as AskedStep}
@@ -40,9 +40,9 @@ deedOf Unlisted = unlisted
 
 -- ---- the grid: 0 where a step is taken, and else the refusal's number
 
-abbrev pub numberOf : Verdict → ℕ
-numberOf takes = 0
-numberOf (refuses w) = (refusal w) .0
+abbrev pub gridNumber : Verdict → ℕ
+gridNumber takes = 0
+gridNumber (refuses w) = (refusal w) .0
 
 -- ---- a desk's step, over the numbers, the desk x and the record c of the block that it reads
 
@@ -78,18 +78,18 @@ leaves a x c = record { answer = a; desk = x; block = c }
 unfoldable pub lookOf : ℕ → ℕ → ℕ → ℕ → Block → LentDesk → Moved
 lookOf nb p k i c x =
     judge (mayLook nb p k i c)
-    (leaves (Seen (c .claimed)) (lent (looked (record { turn = currentTurn (sized nb 0) p i; place = c .claimed }))) c) (λ w. leaves (Refused w 0) x c)
+    (leaves (Seen (c .claimed)) (numbersOf (looked (record { turn = currentTurn (sized nb 0) p i; place = c .claimed }))) c) (λ w. leaves (Refused w 0) x c)
 
 unfoldable pub claimOf : ℕ → ℕ → ℕ → Block → LentDesk → Moved
 claimOf nb p k c x =
-    if wins nb p k c x then leaves (Claimed (x .place)) (lent (claimed (spotOf x))) (oneClaimed c)
-    else leaves (Refused Lost 0) (lent idle) c
+    if wins nb p k c x then leaves (Claimed (x .place)) (numbersOf (claimed (spotOf x))) (oneClaimed c)
+    else leaves (Refused Lost 0) (numbersOf idle) c
 
 abbrev pub fetchOf : Block → LentDesk → ℕ → Moved
-fetchOf c x label = leaves (Took label) (lent (fetched (spotOf x))) c
+fetchOf c x label = leaves (Took label) (numbersOf (fetched (spotOf x))) c
 
 abbrev pub finishOf : Block → Moved
-finishOf c = leaves Done (lent idle) (oneFinished c)
+finishOf c = leaves Done (numbersOf idle) (oneFinished c)
 
 unfoldable pub movedBy : DeskStep → ℕ → ℕ → ℕ → ℕ → List ℕ → ℕ → Block → LentDesk → Moved
 movedBy (look at) nb ne p k es i c x = lookOf nb p k at c x

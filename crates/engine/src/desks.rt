@@ -1,5 +1,5 @@
 // The desks' steps, on a line that the check has found sound: look, claim, fetch and finish.
-use crate::Went;
+use crate::Outcome;
 use crate::grid::at_stage;
 use crate::owner::Verdict;
 use crate::owner::block_of;
@@ -16,7 +16,7 @@ ghost use Rattle.book.specs.Sizes.{currentTurn};
 ghost use Rattle.book.specs.Verdicts.{column, noBlock};
 ghost use Rattle.line.specs.Line.{sizeOf, deskAt, deskStep};
 ghost use Rattle.rules.specs.Lent.{lineOf};
-ghost use Rattle.engine.specs.Lent.{given, gave};
+ghost use Rattle.engine.specs.Lent.{givenBack, backOf};
 ghost use Rattle.engine.specs.Promises.{Ready};
 ghost use Rattle.engine.specs.Owning.{Stands, sized, verdictOf};
 ghost use Rattle.engine.specs.Stepping.{stepOf, mayStep, mayLook, wins, blockRead, lookOf, claimOf, fetchOf, finishOf, movedBy};
@@ -237,12 +237,12 @@ fn block_read(nb: u32, turn: u32, s: DeskStep) -> usize
 }
 
 // A step of desk d: NODESK, NOBLOCK and STAGE, then the step itself. It changes one desk and one record.
-pub fn desk_step(h: Head, table: [Block; 64], entries: &[u32], d: u8, s: DeskStep) -> Went
+pub fn desk_step(h: Head, table: [Block; 64], entries: &[u32], d: u8, s: DeskStep) -> Outcome
     requires { ⌜ Ready h table (now entries) ⌝ }
-    ensures { λ r. ⌜ given r (now (entries .entry)) ≡ gave table (h .nb) (deskStep (sizeOf h) (lineOf h table (h .nb) (now (entries .entry))) d (stepOf s) (deskAt h d)) ⌝ }
+    ensures { λ r. ⌜ givenBack r (now (entries .entry)) ≡ backOf table (h .nb) (deskStep (sizeOf h) (lineOf h table (h .nb) (now (entries .entry))) d (stepOf s) (deskAt h d)) ⌝ }
 {
     if h.t <= d as u16 {
-        return Went {
+        return Outcome {
             answer: Answer::Refused(Refusal::Nodesk, 0),
             head: h,
             table,
@@ -264,13 +264,13 @@ pub fn desk_step(h: Head, table: [Block; 64], entries: &[u32], d: u8, s: DeskSte
             let block = m.block;
             head.desks[at] = desk;
             records[i] = block;
-            Went {
+            Outcome {
                 answer,
                 head,
                 table: records,
             }
         }
-        Verdict::Refuses(w) => Went {
+        Verdict::Refuses(w) => Outcome {
             answer: Answer::Refused(w, 0),
             head,
             table,

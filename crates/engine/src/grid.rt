@@ -2,7 +2,7 @@
 ghost use mathlib.Core.Path.{_≡_};
 ghost use Prim.Native.Nat.{_<_};
 ghost use Rattle.book.specs.Verdicts.{atStage};
-ghost use Rattle.engine.specs.Stepping.{numberOf};
+ghost use Rattle.engine.specs.Stepping.{gridNumber};
 
 // A row for each stage, a column for each step: look, claim, fetch, finish. 0 where the step is taken, and
 // else the number of its refusal, which is STAGE.
@@ -15,7 +15,7 @@ const GRID: [[u8; 4]; 4] = [
 
 pub fn at_stage(stage: usize, step: usize) -> u8
     requires { ⌜ (stage < 4) × (step < 4) ⌝ }
-    ensures { λ r. ⌜ r ≡ numberOf (atStage stage step) ⌝ }
+    ensures { λ r. ⌜ r ≡ gridNumber (atStage stage step) ⌝ }
 {
     GRID[stage][step]
 }

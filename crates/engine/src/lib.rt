@@ -17,7 +17,7 @@ use line::Head;
 use words::Answer;
 
 // What a step or an order gives: the answer, the head and the table. The entries are changed in place.
-pub struct Went {
+pub struct Outcome {
     pub answer: Answer,
     pub head: Head,
     pub table: [Block; 64],

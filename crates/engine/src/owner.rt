@@ -2,7 +2,7 @@
 //
 // Only these three take the head and the table. Their parts take numbers and records, and promise what
 // specs/Owning.antt says of them.
-use crate::Went;
+use crate::Outcome;
 use line::Block;
 use line::Head;
 use words::Answer;
@@ -14,7 +14,7 @@ ghost use Rattle.book.specs.Choice.{_<ᵇ_, _≡ᵇ_};
 ghost use Rattle.book.specs.Sizes.{isLabel, isOrder};
 ghost use Rattle.line.specs.Line.{sizeOf, putStep, orderStep, getStep};
 ghost use Rattle.rules.specs.Lent.{lineOf};
-ghost use Rattle.engine.specs.Lent.{given, gave};
+ghost use Rattle.engine.specs.Lent.{givenBack, backOf};
 ghost use Rattle.engine.specs.Promises.{Ready};
 ghost use Rattle.engine.specs.Owning.{verdictOf, mayStart, mayPlace, roomOf, movesOn, Stands};
 
@@ -189,9 +189,9 @@ fn moves_on(ne: u16, p: u32, k: u32, place: u16, written: u16) -> bool
     k < p
 }
 
-pub fn put(h: Head, table: [Block; 64], entries: &mut [u32], a: u32) -> Went
+pub fn put(h: Head, table: [Block; 64], entries: &mut [u32], a: u32) -> Outcome
     requires { ⌜ Ready h table (now entries) ⌝ }
-    ensures { λ r. ⌜ given r (now (entries .exit)) ≡ gave table (h .nb) (putStep (sizeOf h) (lineOf h table (h .nb) (now (entries .entry))) a) ⌝ }
+    ensures { λ r. ⌜ givenBack r (now (entries .exit)) ≡ backOf table (h .nb) (putStep (sizeOf h) (lineOf h table (h .nb) (now (entries .entry))) a) ⌝ }
 {
     let nb = h.nb as u32;
     let ne = h.ne as u32;
@@ -210,14 +210,14 @@ pub fn put(h: Head, table: [Block; 64], entries: &mut [u32], a: u32) -> Went
             t[block] = after;
             let mut head = h;
             head.p = room.turn;
-            return Went {
+            return Outcome {
                 answer: Answer::Put(a),
                 head,
                 table: t,
             };
         }
         Verdict::Refuses(w) => {
-            return Went {
+            return Outcome {
                 answer: Answer::Refused(w, 0),
                 head: h,
                 table: t,
@@ -227,12 +227,12 @@ pub fn put(h: Head, table: [Block; 64], entries: &mut [u32], a: u32) -> Went
 }
 
 // Puts a to b until one is refused. A line holds NB x NE labels, so there are at most that many puts and one.
-pub fn order(h: Head, table: [Block; 64], entries: &mut [u32], a: u32, b: u32) -> Went
+pub fn order(h: Head, table: [Block; 64], entries: &mut [u32], a: u32, b: u32) -> Outcome
     requires { ⌜ Ready h table (now entries) ⌝ }
-    ensures { λ r. ⌜ given r (now (entries .exit)) ≡ gave table (h .nb) (orderStep (sizeOf h) (lineOf h table (h .nb) (now (entries .entry))) a b) ⌝ }
+    ensures { λ r. ⌜ givenBack r (now (entries .exit)) ≡ backOf table (h .nb) (orderStep (sizeOf h) (lineOf h table (h .nb) (now (entries .entry))) a b) ⌝ }
 {
     if !is_order(a, b) {
-        return Went {
+        return Outcome {
             answer: Answer::Refused(Refusal::Range, 0),
             head: h,
             table,
@@ -262,7 +262,7 @@ pub fn order(h: Head, table: [Block; 64], entries: &mut [u32], a: u32, b: u32) -
             Verdict::Refuses(w) => {
                 let mut head = h;
                 head.p = p;
-                return Went {
+                return Outcome {
                     answer: Answer::Refused(w, label - a),
                     head,
                     table: t,
@@ -272,7 +272,7 @@ pub fn order(h: Head, table: [Block; 64], entries: &mut [u32], a: u32, b: u32) -
     }
     let mut head = h;
     head.p = p;
-    Went {
+    Outcome {
         answer: Answer::Whole(label - a),
         head,
         table: t,
@@ -280,9 +280,9 @@ pub fn order(h: Head, table: [Block; 64], entries: &mut [u32], a: u32, b: u32) -
 }
 
 // Moves from turn K to turn P at most, which by rule 1 is NB - 1 blocks.
-pub fn get(h: Head, table: [Block; 64], entries: &[u32]) -> Went
+pub fn get(h: Head, table: [Block; 64], entries: &[u32]) -> Outcome
     requires { ⌜ Ready h table (now entries) ⌝ }
-    ensures { λ r. ⌜ given r (now (entries .entry)) ≡ gave table (h .nb) (getStep (sizeOf h) (lineOf h table (h .nb) (now (entries .entry)))) ⌝ }
+    ensures { λ r. ⌜ givenBack r (now (entries .entry)) ≡ backOf table (h .nb) (getStep (sizeOf h) (lineOf h table (h .nb) (now (entries .entry)))) ⌝ }
 {
     let nb = h.nb as u32;
     let ne = h.ne;
@@ -301,7 +301,7 @@ pub fn get(h: Head, table: [Block; 64], entries: &[u32]) -> Went
     head.k = k;
     head.reading = place;
     if current.written <= place {
-        return Went {
+        return Outcome {
             answer: Answer::Refused(Refusal::Empty, 0),
             head,
             table,
@@ -309,7 +309,7 @@ pub fn get(h: Head, table: [Block; 64], entries: &[u32]) -> Went
     }
     let label = read_label(entries, ne as u32, here, place as u32);
     head.reading = place + 1;
-    Went {
+    Outcome {
         answer: Answer::Got(label),
         head,
         table,

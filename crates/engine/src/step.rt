@@ -1,5 +1,5 @@
 // A step and an order, as they are called: the check first, then what the code asks for.
-use crate::Went;
+use crate::Outcome;
 use crate::desks::DeskStep;
 use crate::desks::desk_step;
 use crate::owner;
@@ -61,7 +61,7 @@ pub fn step(
     code: u8,
     a: u32,
     b: u32,
-) -> Went
+) -> Outcome
     ensures { λ r. ⌜ Steps h table n (now (entries .entry)) (record { code = code; a = a; b = b }) r (now (entries .exit)) ⌝ }
 {
     match may_pass(check(h, table, n, entries.len())) {
@@ -70,13 +70,13 @@ pub fn step(
             Deed::Get => owner::get(h, table, entries),
             Deed::Order(first, last) => owner::order(h, table, entries, first, last),
             Deed::Desk(d, s) => desk_step(h, table, entries, d, s),
-            Deed::Unlisted => Went {
+            Deed::Unlisted => Outcome {
                 answer: Answer::Refused(Refusal::Badstep, 0),
                 head: h,
                 table,
             },
         },
-        Verdict::Refuses(w) => Went {
+        Verdict::Refuses(w) => Outcome {
             answer: Answer::Refused(w, 0),
             head: h,
             table,
@@ -85,12 +85,12 @@ pub fn step(
 }
 
 // An order of the labels a to b, as a call of its own.
-pub fn order(h: Head, table: [Block; 64], n: usize, entries: &mut [u32], a: u32, b: u32) -> Went
+pub fn order(h: Head, table: [Block; 64], n: usize, entries: &mut [u32], a: u32, b: u32) -> Outcome
     ensures { λ r. ⌜ Orders h table n (now (entries .entry)) a b r (now (entries .exit)) ⌝ }
 {
     match may_pass(check(h, table, n, entries.len())) {
         Verdict::Takes => owner::order(h, table, entries, a, b),
-        Verdict::Refuses(w) => Went {
+        Verdict::Refuses(w) => Outcome {
             answer: Answer::Refused(w, 0),
             head: h,
             table,

@@ -3,9 +3,9 @@ use super::desks::may_look;
 use super::owner::Verdict;
 use line::Block;
 use line::Checked;
+use line::Findings;
 use line::Head;
 use line::Surveyed;
-use line::Views;
 use rules::check;
 ghost use mathlib.Core.Path.{_≡_};
 ghost use Rattle.book.specs.Verdicts.{judge};
@@ -24,10 +24,10 @@ fn bit(v: Verdict) -> u64
 }
 
 // A refused survey.
-fn refused(answer: Surveyed) -> Views
+fn refused(answer: Surveyed) -> Findings
     ensures { λ r. ⌜ r ≡ none answer ⌝ }
 {
-    Views {
+    Findings {
         answer: answer,
         mask: 0,
         count: 0,
@@ -36,7 +36,7 @@ fn refused(answer: Surveyed) -> Views
 }
 
 // The survey reads no entry, only how many were lent. Doubling from the top block down puts block i's bit at place i.
-pub fn survey(h: Head, table: [Block; 64], n: usize, m: usize) -> Views
+pub fn survey(h: Head, table: [Block; 64], n: usize, m: usize) -> Findings
     ensures { λ r. ⌜ Surveys h table n m r ⌝ }
 {
     match check(h, table, n, m) {
@@ -53,7 +53,7 @@ pub fn survey(h: Head, table: [Block; 64], n: usize, m: usize) -> Views
                 let at = i as usize;
                 mask = 2 * mask + bit(may_look(nb, p, k, i, table[at]));
             }
-            Views {
+            Findings {
                 answer: Surveyed::Survey,
                 mask: mask,
                 count: u64::count_ones(mask),

@@ -14,9 +14,9 @@ use Rattle.book.specs.Total.{any, all}
 use Rattle.book.specs.Steps.{Desk, idle, looked, claimed, fetched}
 use Rattle.book.proofs.Choice.{by-test, by-order}
 use Rattle.book.proofs.Turns.{current-low}
-use Rattle.line.specs.Line.{Line, LentDesk, Block, Spot, lent, deskOf, unused, sizeOf}
+use Rattle.line.specs.Line.{Line, LentDesk, Block, Spot, numbersOf, deskOf, unused, sizeOf}
 use Rattle.line.specs.Rules.{Holds, DeskRule, Rule1, Rule2, Rule3, Rule4, Rule5, Rule6, Rule7, Sound}
-use Rattle.line.specs.Rules.{Rule, rule1, rule2, rule3, rule4, rule5, rule6, rule7, Asked, ask, ofBlocks, inOrder, Obeys}
+use Rattle.line.specs.Rules.{Rule, rule1, rule2, rule3, rule4, rule5, rule6, rule7, RuleAt, ask, ofBlocks, inOrder, Obeys}
 use Rattle.line.specs.Check.{Checked, sound, unfit, broken, fit, isIdle, holdsAt, clashes, noClash, isCurrent, deskHolds}
 use Rattle.line.specs.Check.{isZeros, holds1, holds2, holds3, holds4, holds5, holds6, holds7, holds, firstBroken, check}
 use Rattle.line.specs.Demands.{CheckUnfit, CheckSound, CheckBroken, FirstBroken}
@@ -44,18 +44,18 @@ holds-told s (claimed x) = spot-told x s
 holds-told s (fetched x) = spot-told x s
 
 abbrev deskIn : List LentDesk → ℕ → Desk Spot
-deskIn xs d = deskOf (getD xs d (lent idle))
+deskIn xs d = deskOf (getD xs d (numbersOf idle))
 
 -- past the end of the list every desk is idle
-idle-past : deskOf (lent idle) ≡ idle
+idle-past : deskOf (numbersOf idle) ≡ idle
 unfolding deskOf
 idle-past = refl
 
 idles-told : (n : ℕ) (xs : List LentDesk) → Tells (all (λ x. isIdle (deskOf x)) (drop n xs)) ((d : ℕ) → n ≤ d → deskIn xs d ≡ idle)
 idles-told n xs =
-    told (all-told (lent idle) idle-past (λ x. idle-told (deskOf x)) (drop n xs))
-    (λ h d u. let e : n + (d - n) ≡ d = omega arith in rw (getD-drop n xs (d - n) (lent idle), e) at (h (d - n)))
-    (λ h d. rw (getD-drop n xs d (lent idle)) (h (n + d) (omega arith)))
+    told (all-told (numbersOf idle) idle-past (λ x. idle-told (deskOf x)) (drop n xs))
+    (λ h d u. let e : n + (d - n) ≡ d = omega arith in rw (getD-drop n xs (d - n) (numbersOf idle), e) at (h (d - n)))
+    (λ h d. rw (getD-drop n xs d (numbersOf idle)) (h (n + d) (omega arith)))
 
 abbrev NoneHolds : (Spot → Type 0) → List LentDesk → Type 0
 NoneHolds P xs = (d : ℕ) (s : Spot) → P s → Holds (deskIn xs d) s → ⊥
@@ -63,7 +63,7 @@ NoneHolds P xs = (d : ℕ) (s : Spot) → P s → Holds (deskIn xs d) s → ⊥
 spot-free : (x : Spot) (xs : List LentDesk) → Tells (not (any (λ y. holdsAt x (deskOf y)) xs)) (NoneHolds (λ s. x ≡ s) xs)
 unfolding deskOf
 spot-free x xs =
-    told (none-told (lent idle) (λ h. h) (λ y. holds-told x (deskOf y)) xs)
+    told (none-told (numbersOf idle) (λ h. h) (λ y. holds-told x (deskOf y)) xs)
     (λ h d s e k. h d (rw e k))
     (λ h d k. h d x refl k)
 
@@ -115,7 +115,7 @@ module _ (l : Line) where
   unfolding holds3
   rule3-told =
       let xs = l .head .desks in
-      told (all-told (lent idle) (omega arith, rw idle-past tt) stage-told xs and idles-told (l .head .t) xs and apart-told xs)
+      told (all-told (numbersOf idle) (omega arith, rw idle-past tt) stage-told xs and idles-told (l .head .t) xs and apart-told xs)
       (λ h. record { stages = λ d. h .0 .0 d .0; idles = h .0 .1; desks = λ d. h .0 .0 d .1; apart = h .1 })
       (λ r. ((λ d. (r .stages d, r .desks d), r .idles), r .apart))
 
@@ -165,15 +165,15 @@ module _ (l : Line) where
 -- ---- the questions in their order
 
 module _ (l : Line) where
-  abbrev Every : List Asked → Type 0
+  abbrev Every : List RuleAt → Type 0
   Every [] = Unit {0}
   Every (q ∷ qs) = Obeys l q × Every qs
 
-  every-in : (x y : List Asked) (q : Asked) → Every (x ++ (q ∷ y)) → Obeys l q
+  every-in : (x y : List RuleAt) (q : RuleAt) → Every (x ++ (q ∷ y)) → Obeys l q
   every-in [] y q h = h .0
   every-in (p ∷ x) y q h = every-in x y q (h .1)
 
-  every-more : (x : List Asked) (q : Asked) → Every x → Obeys l q → Every (x ++ (q ∷ []))
+  every-more : (x : List RuleAt) (q : RuleAt) → Every x → Obeys l q → Every (x ++ (q ∷ []))
   every-more [] q h o = (o, tt)
   every-more (p ∷ x) q h o = (h .0, every-more x q (h .1) o)
 
@@ -230,7 +230,7 @@ module _ (l : Line) where
   Says (broken place rule) = Fit × FirstBroken l place rule
 
   -- the questions x are obeyed, and y are still to be asked
-  walk : Fit → (x y : List Asked) → inOrder nb ≡ x ++ y → Every x → Says (firstBroken l y)
+  walk : Fit → (x y : List RuleAt) → inOrder nb ≡ x ++ y → Every x → Says (firstBroken l y)
   unfolding firstBroken
   walk t x [] e h = (t, every-sound (rw (e, append-nil x) h))
   walk t x (q ∷ y) e h =

@@ -18,7 +18,7 @@ use Rattle.book.specs.Book as B
 use Rattle.book.proofs.Choice.{cases, same-test}
 use Rattle.book.proofs.Total.{total-none, any-total}
 use Rattle.book.proofs.Rows.{row-turn}
-use Rattle.line.specs.Line.{Line, LentDesk, Block, Spot, nowhere, deskOf, lent, deskAt, sizeOf, withDesk, recordOf, isBusy}
+use Rattle.line.specs.Line.{Line, LentDesk, Block, Spot, nowhere, deskOf, numbersOf, deskAt, sizeOf, withDesk, recordOf, isBusy}
 use Rattle.line.specs.Rules.{heldIn, DeskRule}
 use Rattle.line.specs.Agrees.{asRow, front, Agrees}
 use Rattle.line.proofs.Current.{Window, current→window}
@@ -72,15 +72,15 @@ module _ (l : Line) (b : Book) (g : Agrees (sizeOf (l .head)) l b) where
   unfolding deskOf
   desk-same d =
       let first = take (z .t) (l .head .desks) in
-      ap (λ (ds : List (Desk ℕ)). getD ds d idle) (g .desks) ∙ List·getD-map asDesk first d (lent idle)
+      ap (λ (ds : List (Desk ℕ)). getD ds d idle) (g .desks) ∙ List·getD-map asDesk first d (numbersOf idle)
       ∙ cases (ltb d (z .t))
-      (λ t. ap asDesk (getD-take (z .t) (l .head .desks) d (lent idle) (ltb→lt d (z .t) t)))
+      (λ t. ap asDesk (getD-take (z .t) (l .head .desks) d (numbersOf idle) (ltb→lt d (z .t) t)))
       (λ t. let h = nltb→le d (z .t) t in
-      ap asDesk (List·getD-eq-default first (lent idle) (rw length-take (omega arith))) ∙ ap (asRow z) (sym (g .lawful .sound .three .idles d h)))
+      ap asDesk (List·getD-eq-default first (numbersOf idle) (rw length-take (omega arith))) ∙ ap (asRow z) (sym (g .lawful .sound .three .idles d h)))
 
-  desks-set : (d : ℕ) (x : Desk Spot) → d < z .t → set (b .desks) d (asRow z x) ≡ map asDesk (take (z .t) (set (l .head .desks) d (lent x)))
+  desks-set : (d : ℕ) (x : Desk Spot) → d < z .t → set (b .desks) d (asRow z x) ≡ map asDesk (take (z .t) (set (l .head .desks) d (numbersOf x)))
   desks-set d x h =
-      rw (g .desks, take-set-lt (z .t) (l .head .desks) d (lent x) h, map-set asDesk (take (z .t) (l .head .desks)) d (lent x), desk-lent x)
+      rw (g .desks, take-set-lt (z .t) (l .head .desks) d (numbersOf x) h, map-set asDesk (take (z .t) (l .head .desks)) d (numbersOf x), desk-lent x)
 
   -- what rule 3 says of it: a spot that it holds is current, and its label is written
   pub rule : (d : ℕ) (x : Desk Spot) → deskAt (l .head) d ≡ x → DeskRule l x
@@ -108,7 +108,7 @@ module _ (l : Line) (b : Book) (g : Agrees (sizeOf (l .head)) l b) where
   held-total : (q : ℕ) → total (λ x. if B.heldIn z q x then 1 else 0) (b .desks) ≡ total (λ x. heldIn q (deskOf x)) (l .head .desks)
   held-total q =
       rw (g .desks)
-      (total-first asDesk (λ x. if B.heldIn z q x then 1 else 0) (λ x. heldIn q (deskOf x)) (z .t) (l .head .desks) (lent idle)
+      (total-first asDesk (λ x. if B.heldIn z q x then 1 else 0) (λ x. heldIn q (deskOf x)) (z .t) (l .head .desks) (numbersOf idle)
       (λ d. held-same q (deskAt (l .head) d) (rule d (deskAt (l .head) d) refl))
       (λ d h. ap (heldIn q) (g .lawful .sound .three .idles d h)))
 

@@ -15,7 +15,7 @@ use Rattle.book.specs.Book.{Book}
 use Rattle.book.specs.Book as B
 use Rattle.book.proofs.Choice.{ge→false}
 use Rattle.book.proofs.Total.{replicate-at}
-use Rattle.line.specs.Line.{Line, deskOf, lent, deskAt, unused, recordOf, entryOf, labelAt, does, opened}
+use Rattle.line.specs.Line.{Line, deskOf, numbersOf, deskAt, unused, recordOf, entryOf, labelAt, does, opened}
 use Rattle.line.specs.Agrees.{asRow, front, Agrees}
 use Rattle.line.proofs.Cells.{valid}
 use Rattle.line.proofs.Sound.{does-lawful, opened-lawful}
@@ -44,7 +44,7 @@ module _ (z : Size) (l : Line) (b : Book) where
 -- ---- opening
 
 module _ (z : Size) where
-  desks-opened : (n m : ℕ) → n ≤ m → replicate n idle ≡ map (λ x. asRow z (deskOf x)) (take n (replicate m (lent idle)))
+  desks-opened : (n m : ℕ) → n ≤ m → replicate n idle ≡ map (λ x. asRow z (deskOf x)) (take n (replicate m (numbersOf idle)))
   unfolding deskOf
   desks-opened zero m h = refl
   desks-opened (suc n) zero h = absurd (omega arith)
@@ -56,7 +56,7 @@ module _ (z : Size) where
 
   desk-opened : (d : ℕ) → deskAt ((opened z) .head) d ≡ idle
   unfolding opened deskOf
-  desk-opened d = ap deskOf (replicate-at 16 d (lent idle))
+  desk-opened d = ap deskOf (replicate-at 16 d (numbersOf idle))
 
   front-opened : (t : ℕ) → front z (opened z) t ≡ 0
   unfolding opened

@@ -15,7 +15,7 @@ use lib.Arith.{lt→nleb, le→nltb, digits-mod}
 use Rattle.words.specs.declared.Answer.the-variants.{Claimed}
 use Rattle.book.specs.Sizes.{Size, blockOf, currentTurn, isOwned}
 use Rattle.book.specs.Steps.{idle, looked, claimed}
-use Rattle.book.specs.Book.{Book, rowAt, rowOf, marked}
+use Rattle.book.specs.Book.{Book, rowAt, rowOf, markGone}
 use Rattle.book.specs.Book as B
 use Rattle.book.proofs.Choice.{by-test₂, same-test, eq→eqb, le→true, and-first, and-second, and-in}
 use Rattle.book.proofs.Rows.{written-is, row-turn, mark-length, mark-label}
@@ -134,9 +134,9 @@ module _ (l : Line) (b : Book) (g : Agrees (sizeOf (l .head)) l b) (d : ℕ) (h 
         front-same z l m u refl refl refl
         (λ a i. ap (λ (x : Block). x .claimed) (record-apart z (l .table) t (oneClaimed c) p u window (near l b g u (omega arith) i) n))
 
-    won-matches : Matches z m (record { rows = marked (b .rows) row; k = b .k; desks = set (b .desks) d (claimed row) })
+    won-matches : Matches z m (record { rows = markGone (b .rows) row; k = b .k; desks = set (b .desks) d (claimed row) })
     won-matches =
-        desk-matches l b g d h (claimed s) tb (marked (b .rows) row) kept (sees-not l b g tb (claimed s) (λ x. x))
+        desk-matches l b g d h (claimed s) tb (markGone (b .rows) row) kept (sees-not l b g tb (claimed s) (λ x. x))
         (mark-length (b .rows) row) (λ n. mark-label (b .rows) row n on-list)
         (mark-front z (b .rows) (front z l) (front z m) t (s .place) fits on-list (front-above z l t above low ∙ still) front-won front-other (g .marks))
 

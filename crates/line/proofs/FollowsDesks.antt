@@ -18,7 +18,7 @@ use Rattle.book.specs.Book.{Book, rowOf, waits}
 use Rattle.book.specs.Book as B
 use Rattle.book.proofs.Choice.{same-test, neq-test}
 use Rattle.book.proofs.Turns.{current-low, current-high}
-use Rattle.line.specs.Line.{Line, Block, Spot, nowhere, deskAt, sizeOf, oneFinished, recordOf, lookStep, fetchStep, finishStep, taken, deskStep}
+use Rattle.line.specs.Line.{Line, Block, Spot, nowhere, deskAt, sizeOf, oneFinished, recordOf, lookStep, fetchStep, finishStep, deskDoes, deskStep}
 use Rattle.line.specs.Agrees.{asRow, Agrees}
 use Rattle.line.proofs.Current.{Window, each-turn}
 use Rattle.line.proofs.Cells.{blocks-of}
@@ -110,8 +110,8 @@ module _ (l : Line) (b : Book) (g : Agrees (sizeOf (l .head)) l b) where
     -- ---- the step that the grid lets the desk take
 
     taken-follows : (s : DeskStep) (x : Desk Spot) → deskAt (l .head) d ≡ x → atStage (stage x) (column s) ≡ takes
-        → Follows z (taken z l d (carried nowhere x) s) (B.taken z b d (carried 0 (asRow z x)) s)
-    unfolding taken B.taken
+        → Follows z (deskDoes z l d (carried nowhere x) s) (B.deskDoes z b d (carried 0 (asRow z x)) s)
+    unfolding deskDoes B.deskDoes
     taken-follows (look i) x e t = look-follows i
     taken-follows claim idle e t = absurd (refuses-not Stage t)
     taken-follows claim (looked s) e t = claim-follows l b g d h s e

@@ -12,7 +12,7 @@ use lib.Dec.{T, ltb, eqb, ltb→lt, nltb→le, eqb→eq}
 use lib.ListN.{length}
 use Rattle.words.specs.declared.Answer.the-variants.{Got}
 use Rattle.book.specs.Sizes.{Size}
-use Rattle.book.specs.Book.{Row, Book, rowAt, rowOf, marked, written, first, waits, readTurn}
+use Rattle.book.specs.Book.{Row, Book, rowAt, rowOf, markGone, written, first, waits, readTurn}
 use Rattle.book.specs.Book as B
 use Rattle.book.proofs.Choice.{by-test, by-test₂, cases, choose-same, T→true, not→false, neq-test, eq→eqb, lt→true, ge→false, and-false}
 use Rattle.book.proofs.Rows.{first-fits, first-in, read-from, read-to, mark-length, mark-label}
@@ -122,7 +122,7 @@ module _ (l : Line) (b : Book) (g : Agrees (sizeOf (l .head)) l b) where
 
     -- a get that takes the first waiting row
     taken-marks : T (waiting r) → (u q : ℕ) → q < z .ne
-        → (rowAt (marked (b .rows) (rowOf z r (place r))) (rowOf z u q)) .gone ≡ ltb q (front z (moved (suc (place r))) u)
+        → (rowAt (markGone (b .rows) (rowOf z r (place r))) (rowOf z u q)) .gone ≡ ltb q (front z (moved (suc (place r))) u)
     taken-marks w =
         mark-front z (b .rows) (front z l) (front z (moved (suc (place r)))) r (place r) (first-fits z (b .rows) r w) (first-in z (b .rows) r w)
         (sym (first-front l b g r to)) (front-read (suc (place r))) (front-moved (suc (place r))) (g .marks)
@@ -135,7 +135,7 @@ module _ (l : Line) (b : Book) (g : Agrees (sizeOf (l .head)) l b) where
         by-test₂ (Follows z) (ltb (place r) ((here r) .written)) (waiting r) e
         (λ t. let n = rowOf z r (place r) in let s = subst T e t in record {
           same = ap Got (g .labels (spot r) (w .low) (w .high) (ltb→lt (place r) ((here r) .written) t));
-          matches = moved-matches (suc (place r)) (marked (b .rows) n) (mark-length (b .rows) n)
+          matches = moved-matches (suc (place r)) (markGone (b .rows) n) (mark-length (b .rows) n)
               (λ m. mark-label (b .rows) n m (first-in z (b .rows) r s)) (taken-marks s);
         })
         (λ _. record { same = refl; matches = moved-matches (place r) (b .rows) refl (λ m. refl) empty-marks })

@@ -22,7 +22,7 @@ use Rattle.book.proofs.Choice.{by-test, by-test₂, cases, neq-test, by-order}
 use Rattle.book.proofs.Rows.{row-append}
 use Rattle.book.proofs.Turns.{block-apart}
 use Rattle.line.specs.Line.{Line, Block, Spot, sizeOf, oneWritten, recordOf, entryOf, labelAt, labelled}
-use Rattle.line.specs.Line.{isBusy, mayPut, stored, putStep, putMany, orderStep}
+use Rattle.line.specs.Line.{isBusy, mayPut, withLabel, putStep, putMany, orderStep}
 use Rattle.line.specs.Agrees.{front, Lawful, Agrees}
 use Rattle.line.proofs.Current.{Window, record-same, record-apart, entry-inj, entry-lt, each-turn}
 use Rattle.line.proofs.Cells.{blocks-of, entries-of}
@@ -190,8 +190,8 @@ module _ (l : Line) (b : Book) (g : Agrees (sizeOf (l .head)) l b) where
   }
 
   -- K is within the window of the line after it, which is sound
-  stored-matches : (a : ℕ) → Lawful z (stored z l a) → Matches z (stored z l a) (append b a)
-  unfolding stored
+  stored-matches : (a : ℕ) → Lawful z (withLabel z l a) → Matches z (withLabel z l a) (append b a)
+  unfolding withLabel
   stored-matches a =
       by-test (λ x. Lawful z x → Matches z x (append b a)) (ltb ((here p) .written) (z .ne))
       (λ s w. put-matches a p ((here p) .written) (oneWritten (here p)) (next-place (ltb→lt ((here p) .written) (z .ne) s)))
@@ -203,17 +203,17 @@ module _ (z : Size) where
   verdict-same : (l : Line) (b : Book) → Agrees z l b → (a : ℕ) → mayPut z l a ≡ B.mayPut z b a
   verdict-same l b g a = at-size z l b (λ y. mayPut y l a ≡ B.mayPut y b a) (λ o. put-verdict l b o a) g
 
-  stored-agrees : (l : Line) (b : Book) → Agrees z l b → (a : ℕ) → mayPut z l a ≡ takes → Agrees z (stored z l a) (append b a)
+  stored-agrees : (l : Line) (b : Book) → Agrees z l b → (a : ℕ) → mayPut z l a ≡ takes → Agrees z (withLabel z l a) (append b a)
   stored-agrees l b g a t =
       let w = stored-lawful z l a (g .lawful) t in
-      agrees-of z (stored z l a) (append b a) w
-      (at-size z l b (λ y. Lawful y (stored y l a) → Matches y (stored y l a) (append b a)) (λ o. stored-matches l b o a) g w)
+      agrees-of z (withLabel z l a) (append b a) w
+      (at-size z l b (λ y. Lawful y (withLabel y l a) → Matches y (withLabel y l a) (append b a)) (λ o. stored-matches l b o a) g w)
 
   pub put-follows : (l : Line) (b : Book) → Agrees z l b → (a : ℕ) → Follows z (putStep z l a) (B.putStep z b a)
   unfolding putStep B.putStep
   put-follows l b g a =
       by-verdict₂ (Follows z) (mayPut z l a) (B.mayPut z b a) (verdict-same l b g a)
-      (λ t. record { same = refl; matches = matches-of z (stored z l a) (append b a) (stored-agrees l b g a t) })
+      (λ t. record { same = refl; matches = matches-of z (withLabel z l a) (append b a) (stored-agrees l b g a t) })
       (λ w. stays z l b g (Refused w 0))
 
   many-follows : (n : ℕ) (l : Line) (b : Book) → Agrees z l b → (a count : ℕ) → Follows z (putMany z n l a count) (B.putMany z n b a count)
@@ -221,7 +221,7 @@ module _ (z : Size) where
   many-follows zero l b g a count = stays z l b g (Whole count)
   many-follows (suc n) l b g a count =
       by-verdict₂ (Follows z) (mayPut z l a) (B.mayPut z b a) (verdict-same l b g a)
-      (λ t. many-follows n (stored z l a) (append b a) (stored-agrees l b g a t) (suc a) (suc count))
+      (λ t. many-follows n (withLabel z l a) (append b a) (stored-agrees l b g a t) (suc a) (suc count))
       (λ w. stays z l b g (Refused w count))
 
   pub order-follows : (l : Line) (b : Book) → Agrees z l b → (a e : ℕ) → Follows z (orderStep z l a e) (B.orderStep z b a e)

@@ -14,10 +14,10 @@ use lib.Arith.{digits-div}
 use Rattle.words.specs.declared.Answer.{Answer}
 use Rattle.book.specs.Sizes.{Size}
 use Rattle.book.specs.Steps.{looked}
-use Rattle.book.specs.Book.{Row, Book, rowAt, rowOf, rowsOf, marked, putTurn, written, first, waits}
+use Rattle.book.specs.Book.{Row, Book, rowAt, rowOf, rowsOf, markGone, putTurn, written, first, waits}
 use Rattle.book.specs.Book as B
 use Rattle.book.proofs.Choice.{cases, same-test, by-order, neq-test, lt→true, ge→false, le→true, gt→false, neq→eqb, eqb-same}
-use Rattle.book.proofs.Rows.{lead-prefix, written-is, row-place, mark-same, mark-other}
+use Rattle.book.proofs.Rows.{goneBefore-prefix, written-is, row-place, mark-same, mark-other}
 use Rattle.book.proofs.Turns.{row-inj}
 use Rattle.line.specs.Line.{Line, Block, Spot, deskOf, deskAt, sizeOf, recordOf, labelAt}
 use Rattle.line.specs.Line as L
@@ -111,7 +111,7 @@ module _ (z : Size) where
   pub mark-front : (rs : List Row) (f f′ : ℕ → ℕ) (t p : ℕ) → p < z .ne → rowOf z t p < length rs
       → f t ≡ p → f′ t ≡ suc p → ((u : ℕ) → u ≢ t → f′ u ≡ f u)
       → ((u q : ℕ) → q < z .ne → (rowAt rs (rowOf z u q)) .gone ≡ ltb q (f u))
-      → (u q : ℕ) → q < z .ne → (rowAt (marked rs (rowOf z t p)) (rowOf z u q)) .gone ≡ ltb q (f′ u)
+      → (u q : ℕ) → q < z .ne → (rowAt (markGone rs (rowOf z t p)) (rowOf z u q)) .gone ≡ ltb q (f′ u)
   mark-front rs f f′ t p fits on old new other marks u q h =
       cases (eqb u t)
       (λ s. rw (eqb→eq u t s, new) (cases (eqb q p)
@@ -190,7 +190,7 @@ module _ (l : Line) (b : Book) (g : Agrees (sizeOf (l .head)) l b) where
   pub first-front : (t : ℕ) → t ≤ p → first z (b .rows) t ≡ front z l t
   unfolding first written
   first-front t h =
-      lead-prefix (rowsOf z (b .rows) t) (front z l t)
+      goneBefore-prefix (rowsOf z (b .rows) t) (front z l t)
       (λ q i. let j : q < z .ne = omega (arith, written-is z (b .rows) t) in rw (row-place z (b .rows) t q j) (g .marks t q j)) (front-le t h)
 
   pub first-above : (t : ℕ) → k < t → t ≤ p → first z (b .rows) t ≡ (here t) .claimed

@@ -19,8 +19,8 @@ use Rattle.book.specs.Sizes.{Size, within, isLabel, isOrder, roundOf, isUsed, i
 use Rattle.book.specs.Steps.{Step, DeskStep, look, claim, fetch, finish, Deed, put, get, order, desk, unlisted, decode, Desk, carried}
 use Rattle.book.specs.Verdicts.{Verdict, takes, refuses, judge, grid, stage, column, atStage, noBlock, admitted, lookable, startable, placeable}
 use Rattle.book.proofs.Choice.{by-test, T→true, not→false}
-use Rattle.line.specs.Line.{Line, Outcome, Spot, says, refuse, nowhere, sizeOf, deskAt, recordOf, mayPut, stored, putStep, putMany, orderStep}
-use Rattle.line.specs.Line.{readAt, getStep, winnable, lookStep, claimStep, fetchStep, finishStep, taken, deskStep, does}
+use Rattle.line.specs.Line.{Line, Outcome, Spot, says, refuse, nowhere, sizeOf, deskAt, recordOf, mayPut, withLabel, putStep, putMany, orderStep}
+use Rattle.line.specs.Line.{readAt, getStep, winnable, lookStep, claimStep, fetchStep, finishStep, deskDoes, deskStep, does}
 use Rattle.line.specs.Rules.{Sound}
 use Rattle.line.specs.Check.{Checked, sound, unfit, broken, fit, check}
 use Rattle.line.specs.Calls.{opens, passes, step, orders}
@@ -102,7 +102,7 @@ module _ (z : Size) where
   unfolding putMany
   many-later zero l a count = tt
   many-later (suc n) l a count =
-      judge-later count l (mayPut z l a) _ (may-later count z l a) (many-later n (stored z l a) (suc a) (suc count))
+      judge-later count l (mayPut z l a) _ (may-later count z l a) (many-later n (withLabel z l a) (suc a) (suc count))
 
   module _ (l : Line) where
     pub order-later : (a e : ℕ) → Later (orderStep z l a e)
@@ -120,8 +120,8 @@ module _ (z : Size) where
         let waits = not (c .claimed ≡ᵇ c .written) in
         judge-later 0 l (lookable z (l .head .p) (l .head .k) i waits) _ (lookable-later 0 z (l .head .p) (l .head .k) i waits) tt
 
-    taken-later : (d : ℕ) (s : Spot) (x : DeskStep) → Later (taken z l d s x)
-    unfolding taken claimStep fetchStep finishStep
+    taken-later : (d : ℕ) (s : Spot) (x : DeskStep) → Later (deskDoes z l d s x)
+    unfolding deskDoes claimStep fetchStep finishStep
     taken-later d s (look i) = look-later d i
     taken-later d s claim = by-test Later (winnable z l s) (λ _. tt) (λ _. tt)
     taken-later d s fetch = tt

@@ -14,22 +14,22 @@ use Rattle.book.specs.Sizes.{Size, blockOf}
 use Rattle.book.specs.Steps.{Desk, idle, looked, claimed, fetched}
 use Rattle.book.proofs.Choice.{cases, neq-test, neq→eqb, eqb-same}
 use Rattle.book.proofs.Total.{total-set}
-use Rattle.line.specs.Line.{Line, LentDesk, Block, Head, Spot, lent, deskOf, deskAt, withDesk, withHead, sizeOf}
+use Rattle.line.specs.Line.{Line, LentDesk, Block, Head, Spot, numbersOf, deskOf, deskAt, withDesk, withHead, sizeOf}
 use Rattle.line.specs.Rules.{heldIn, Holds, Current, DeskRule, Rule3}
 use Rattle.line.proofs.Current.{current→window, record-later, each-turn}
 use Rattle.line.proofs.Cells.{held, Stands, here}
-use Rattle.line.proofs.Told.{In, Told, some-block}
+use Rattle.line.proofs.ByTurns.{In, ByTurns, some-block}
 
 -- ---- a desk as its numbers
 
-pub desk-lent : (x : Desk Spot) → deskOf (lent x) ≡ x
+pub desk-lent : (x : Desk Spot) → deskOf (numbersOf x) ≡ x
 unfolding deskOf
 desk-lent idle = refl
 desk-lent (looked s) = refl
 desk-lent (claimed s) = refl
 desk-lent (fetched s) = refl
 
-stage-lent : (x : Desk Spot) → (lent x) .stage ≤ 3
+stage-lent : (x : Desk Spot) → (numbersOf x) .stage ≤ 3
 stage-lent idle = omega arith
 stage-lent (looked s) = omega arith
 stage-lent (claimed s) = omega arith
@@ -59,10 +59,10 @@ held-rule l (fetched x) s h o = rw h at o
 
 module _ (h : Head) (d : ℕ) (x : Desk Spot) (there : d < length (h .desks)) where
   pub desk-own : deskAt (withDesk h d x) d ≡ x
-  desk-own = ap deskOf (getD-set-same (h .desks) d (lent x) (lent idle) there) ∙ desk-lent x
+  desk-own = ap deskOf (getD-set-same (h .desks) d (numbersOf x) (numbersOf idle) there) ∙ desk-lent x
 
   pub desk-other : (e : ℕ) → e ≢ d → deskAt (withDesk h d x) e ≡ deskAt h e
-  desk-other e n = ap deskOf (getD-set-other (h .desks) d e (lent x) (lent idle) n)
+  desk-other e n = ap deskOf (getD-set-other (h .desks) d e (numbersOf x) (numbersOf idle) n)
 
   -- what holds of the new desk, and of every other one as it was
   pub each-desk : (Q : ℕ → Desk Spot → Type 0) → Q d x → ((e : ℕ) → e ≢ d → Q e (deskAt h e)) → (e : ℕ) → Q e (deskAt (withDesk h d x) e)
@@ -71,8 +71,8 @@ module _ (h : Head) (d : ℕ) (x : Desk Spot) (there : d < length (h .desks)) wh
       (λ s. rw (eqb→eq e d s, desk-own) new)
       (λ s. let n = neq-test e d s in rw (desk-other e n) (old e n))
 
-  pub holders-set : (t : ℕ) → held (set (h .desks) d (lent x)) t + heldIn t (deskAt h d) ≡ held (h .desks) t + heldIn t x
-  holders-set t = rw (desk-lent x) at (total-set (λ (y : LentDesk). heldIn t (deskOf y)) (h .desks) d (lent x) (lent idle) there)
+  pub holders-set : (t : ℕ) → held (set (h .desks) d (numbersOf x)) t + heldIn t (deskAt h d) ≡ held (h .desks) t + heldIn t x
+  holders-set t = rw (desk-lent x) at (total-set (λ (y : LentDesk). heldIn t (deskOf y)) (h .desks) d (numbersOf x) (numbersOf idle) there)
 
 -- no spot is held by both
 abbrev pub Apart : Desk Spot → Desk Spot → Type 0
@@ -94,11 +94,11 @@ module _ (l : Line) (d : ℕ) (x : Desk Spot) (there : d < length (l .head .desk
       (each (λ (e : ℕ) (y : Desk Spot). d ≢ e → Apart x y) (λ n. absurd (n refl)) (λ e n _. new e n))
       (λ i n. each (λ (e : ℕ) (y : Desk Spot). i ≢ e → Apart (deskAt h i) y) (λ _ s a b. new i n s b a) (λ e _ k s. o .apart i e s k))
 
-  stages-desk : (e : ℕ) → (getD (h′ .desks) e (lent idle)) .stage ≤ 3
+  stages-desk : (e : ℕ) → (getD (h′ .desks) e (numbersOf idle)) .stage ≤ 3
   stages-desk e =
       cases (eqb e d)
-      (λ s. rw (eqb→eq e d s, getD-set-same (h .desks) d (lent x) (lent idle) there) (stage-lent x))
-      (λ s. rw (getD-set-other (h .desks) d e (lent x) (lent idle) (neq-test e d s)) (o .stages e))
+      (λ s. rw (eqb→eq e d s, getD-set-same (h .desks) d (numbersOf x) (numbersOf idle) there) (stage-lent x))
+      (λ s. rw (getD-set-other (h .desks) d e (numbersOf x) (numbersOf idle) (neq-test e d s)) (o .stages e))
 
   pub three-desk : d < h .t → DeskRule l x → Rule3 (withHead l h′)
   three-desk below rule = record {
@@ -144,7 +144,7 @@ pub record Grows (l : Line) (t : ℕ) (c : Block) : Type 0 where
   pub writes : (here l t) .written ≤ c .written
   pub reading : l .head .k ≡ t → c .claimed ≤ l .head .reading
 
-module _ (l : Line) (g : Told l) (t : ℕ) (c : Block) (r : Grows l t c) (es : List ℕ) where
+module _ (l : Line) (g : ByTurns l) (t : ℕ) (c : Block) (r : Grows l t c) (es : List ℕ) where
   abbrev z : Size
   z = sizeOf (l .head)
 
@@ -174,7 +174,7 @@ module _ (l : Line) (g : Told l) (t : ℕ) (c : Block) (r : Grows l t c) (es : L
   -- and the desks are now ds, which hold as many spots of every other turn as before
   pub told-record : (ds : List LentDesk) → length ds ≡ 16 → length es ≡ length (l .entries) → Stands z (l .head .p) ds t c
       → ((u : ℕ) → u ≢ t → held ds u ≡ held (l .head .desks) u)
-      → Rule3 (withHead l′ (withDesks (l .head) ds)) → Told (withHead l′ (withDesks (l .head) ds))
+      → Rule3 (withHead l′ (withDesks (l .head) ds)) → ByTurns (withHead l′ (withDesks (l .head) ds))
   told-record ds many same new others three =
       let k : In l (l .head .k) = record { low = g .one .below; high = omega (arith, g .one .near) } in
       let own : (u : ℕ) → In l u → l .head .k ≡ u → (here l′ u) .claimed ≤ l .head .reading =

@@ -6,7 +6,7 @@ pub mod Guards
 pub mod Empty
 pub mod Refusals
 pub mod Orders
-pub mod Told
+pub mod ByTurns
 pub mod Kept
 pub mod SoundPut
 pub mod SoundGet

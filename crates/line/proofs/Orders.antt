@@ -17,7 +17,7 @@ use Rattle.book.specs.Sizes.{Size, isOrder}
 use Rattle.book.specs.Steps.{order}
 use Rattle.book.specs.Verdicts.{Verdict, takes, refuses}
 use Rattle.book.proofs.Choice.{by-test, T→true, by-order}
-use Rattle.line.specs.Line.{Line, Outcome, says, sizeOf, recordOf, mayPut, stored, putMany, orderStep, does}
+use Rattle.line.specs.Line.{Line, Outcome, says, sizeOf, recordOf, mayPut, withLabel, putMany, orderStep, does}
 use Rattle.line.specs.Rules.{Sound}
 use Rattle.line.specs.Calls.{step, orders}
 use Rattle.line.specs.Refusals.{When, afterPuts, Places}
@@ -41,7 +41,7 @@ module _ (z : Size) where
   unfolding afterPuts
   places-first n l a p = rw (add-zero a) at (p 0 (omega arith))
 
-  places-rest : (n : ℕ) (l : Line) (a : ℕ) → Places z (suc n) l a → Places z n (stored z l a) (suc a)
+  places-rest : (n : ℕ) (l : Line) (a : ℕ) → Places z (suc n) l a → Places z n (withLabel z l a) (suc a)
   unfolding afterPuts
   places-rest n l a p m h = rw (shift a m) at (p (suc m) (omega arith))
 
@@ -49,7 +49,7 @@ module _ (z : Size) where
   unfolding putMany afterPuts
   goes-on zero n l a c p = rw (zero-add n, add-zero a, add-zero c)
   goes-on (suc m) n l a c p =
-      rw (suc-add m n, places-first m l a p, shift a m, shift c m) (goes-on m n (stored z l a) (suc a) (suc c) (places-rest m l a p))
+      rw (suc-add m n, places-first m l a p, shift a m, shift c m) (goes-on m n (withLabel z l a) (suc a) (suc c) (places-rest m l a p))
 
   -- put m of n is the first that is refused
   abbrev Stops : ℕ → Line → ℕ → Refusal → ℕ → Type 0
@@ -77,8 +77,8 @@ module _ (z : Size) where
         rw (split, goes-on m (suc (n - suc m)) l a 0 p, e, zero-add m)
 
   -- a put leaves the size
-  stored-size : (l : Line) (a : ℕ) → sizeOf ((stored z l a) .head) ≡ sizeOf (l .head)
-  unfolding stored
+  stored-size : (l : Line) (a : ℕ) → sizeOf ((withLabel z l a) .head) ≡ sizeOf (l .head)
+  unfolding withLabel
   stored-size l a =
       let c = recordOf z (l .table) (l .head .p) in
       by-test (λ (m : Line). sizeOf (m .head) ≡ sizeOf (l .head)) (c .written <ᵇ z .ne) (λ _. refl) (λ _. refl)
@@ -86,7 +86,7 @@ module _ (z : Size) where
   size-kept : (n : ℕ) (l : Line) (a : ℕ) → sizeOf ((afterPuts z n l a) .head) ≡ sizeOf (l .head)
   unfolding afterPuts
   size-kept zero l a = refl
-  size-kept (suc n) l a = size-kept n (stored z l a) (suc a) ∙ stored-size l a
+  size-kept (suc n) l a = size-kept n (withLabel z l a) (suc a) ∙ stored-size l a
 
 -- ---- an order from a to e
 
@@ -104,13 +104,13 @@ module _ (l : Line) (a e : ℕ) where
       (λ n. (m ≡ afterPuts z n l a) × T (isOrder a e) × (n ≡ count) × Places z n l a)
       (λ w n. (m ≡ afterPuts z n l a) × (((w ≡ Range) × When l Range (order a e) × (n ≡ 0)) ⊎ (T (isOrder a e) × Stops z count l a w n)))
 
-  abbrev Told : Outcome → Type 0
-  Told o = Said (o .line) (o .answer)
+  abbrev Says : Outcome → Type 0
+  Says o = Said (o .line) (o .answer)
 
-  told : Told (orderStep z l a e)
+  told : Says (orderStep z l a e)
   unfolding orderStep afterPuts
   told =
-      by-test Told (isOrder a e)
+      by-test Says (isOrder a e)
       (λ t. ⊎-elim (λ p. rw (all-placed z count l a p) (refl, t, refl, p))
       (λ x. let (w, n, s) = x in rw (one-refused z count l a w n s) (refl, inr (t, s))) (first z count l a))
       (λ t. (refl, inl (refl, (a, e, refl, out-of-range a e .0 t), refl)))

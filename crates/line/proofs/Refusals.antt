@@ -1,5 +1,5 @@
 -- When a step that is no order is refused, and what the refusal leaves.
--- A deed is followed test by test: `Told e` says of an outcome that a refusal has the value 0 and that its sentence of
+-- A deed is followed test by test: `Says e` says of an outcome that a refusal has the value 0 and that its sentence of
 -- specs/Refusals.antt holds. The other way round, a sentence settles each test of its deed, and so the answer (`when-refused`).
 -- What a refusal leaves is found by following the deeds again; that needs no sound line.
 use mathlib.Core.Path.{_≡_, refl, subst}
@@ -22,7 +22,7 @@ use Rattle.book.proofs.Choice.{by-test, by-verdict, cases, T→true, not→fals
 use Rattle.book.proofs.Choice.{eq→eqb, eqb-same, lt→true, ge→false, le→true, gt→false}
 use Rattle.book.proofs.Turns.{current-low}
 use Rattle.line.specs.Line.{Line, Outcome, Block, Spot, nowhere, refuse, deskAt, getAt, withHead, sizeOf, recordOf, isBusy, mayPut, putStep, orderStep, readAt, getStep}
-use Rattle.line.specs.Line.{lookStep, winnable, claimStep, fetchStep, finishStep, taken, deskStep, does}
+use Rattle.line.specs.Line.{lookStep, winnable, claimStep, fetchStep, finishStep, deskDoes, deskStep, does}
 use Rattle.line.specs.Rules.{Current, Sound}
 use Rattle.line.specs.Check.{fit, check}
 use Rattle.line.specs.Calls.{step, passes}
@@ -83,18 +83,18 @@ module _ (l : Line) where
   abbrev Sentence : Deed → Refusal → ℕ → Type 0
   Sentence e w n = When l w e × (n ≡ 0)
 
-  abbrev Told : Deed → Outcome → Type 0
-  Told e o = OfRefusal (Sentence e) (o .answer)
+  abbrev Says : Deed → Outcome → Type 0
+  Says e o = OfRefusal (Sentence e) (o .answer)
 
   abbrev Judged : Deed → Outcome → Verdict → Type 0
-  Judged e o v = Told e (judge v o (refuse l))
+  Judged e o v = Says e (judge v o (refuse l))
 
   -- ---- put
 
   abbrev next : ℕ
   next = P + 1
 
-  put-told : (a : ℕ) → Told (put a) (putStep z l a)
+  put-told : (a : ℕ) → Says (put a) (putStep z l a)
   unfolding putStep mayPut placeable startable isBusy isLabel
   put-told a =
       let J = Judged (put a) _ in
@@ -161,7 +161,7 @@ module _ (l : Line) where
         ⊎-elim (λ h. rw (gt→false i P h))
         (λ h. rw (le→true i P (h .0), gt→false t K (h .1), T→true none (eq→eqb (c .claimed) (c .written) (h .2))))
 
-    look-told : (d : ℕ) → Takes l d (look i) → Told (desk d (look i)) (lookStep z l d i)
+    look-told : (d : ℕ) → Takes l d (look i) → Says (desk d (look i)) (lookStep z l d i)
     unfolding lookStep lookable isOwned
     look-told d k =
         let J = Judged (desk d (look i)) _ in
@@ -196,9 +196,9 @@ module _ (l : Line) where
     unfolding winnable
     won h = let (e, k, q) = h in rw (owned u e, gt→false u K k, e, eqb-same u, q, eqb-same (s .place)) tt
 
-    claim-told : (d : ℕ) → d < l .head .t → deskAt (l .head) d ≡ looked s → Told (desk d claim) (claimStep z l d s)
+    claim-told : (d : ℕ) → d < l .head .t → deskAt (l .head) d ≡ looked s → Says (desk d claim) (claimStep z l d s)
     unfolding claimStep
-    claim-told d h e = by-test (Told (desk d claim)) (winnable z l s) (λ _. tt) (λ n. ((d, s, refl, h, e, λ w. T-not (winnable z l s) n (won w)), refl))
+    claim-told d h e = by-test (Says (desk d claim)) (winnable z l s) (λ _. tt) (λ n. ((d, s, refl, h, e, λ w. T-not (winnable z l s) n (won w)), refl))
 
   -- ---- the desks' steps
 
@@ -215,13 +215,13 @@ module _ (l : Line) where
   off-line d finish h b = absurd b
 
   module _ (d : ℕ) (h : d < l .head .t) where
-    stage-told : (s : DeskStep) → OnLine l s → atStage (stage (deskAt (l .head) d)) (column s) ≡ refuses Stage → Told (desk d s) (refuse l Stage)
+    stage-told : (s : DeskStep) → OnLine l s → atStage (stage (deskAt (l .head) d)) (column s) ≡ refuses Stage → Says (desk d s) (refuse l Stage)
     stage-told s o g = ((d, s, refl, h, o, g), refl)
 
     -- the grid, a stage at a time
     grid-told : (x : Desk Spot) (s : DeskStep) → deskAt (l .head) d ≡ x → OnLine l s
-        → Judged (desk d s) (taken z l d (carried nowhere x) s) (atStage (stage x) (column s))
-    unfolding taken fetchStep finishStep
+        → Judged (desk d s) (deskDoes z l d (carried nowhere x) s) (atStage (stage x) (column s))
+    unfolding deskDoes fetchStep finishStep
     grid-told idle (look i) e o = look-told i d (record { there = h; on = o; grid = rw e })
     grid-told idle claim e o = stage-told claim o (rw e)
     grid-told idle fetch e o = stage-told fetch o (rw e)
@@ -239,7 +239,7 @@ module _ (l : Line) where
     grid-told (fetched s) fetch e o = stage-told fetch o (rw e)
     grid-told (fetched s) finish e o = tt
 
-  desk-told : (d : ℕ) (s : DeskStep) → Told (desk d s) (deskStep z l d s (deskAt (l .head) d))
+  desk-told : (d : ℕ) (s : DeskStep) → Says (desk d s) (deskStep z l d s (deskAt (l .head) d))
   unfolding deskStep admitted
   desk-told d s =
       let J = Judged (desk d s) _ in
@@ -247,24 +247,24 @@ module _ (l : Line) where
       let h = nleb→lt (l .head .t) d n in
       by-test J (noBlock z s) (λ b. (off-line d s h b, refl)) (λ b. grid-told d h (deskAt (l .head) d) s refl (on-line s .0 b)))
 
-  takes-step : (d : ℕ) (s : DeskStep) → Takes l d s → does z l (desk d s) ≡ taken z l d (carried nowhere (deskAt (l .head) d)) s
+  takes-step : (d : ℕ) (s : DeskStep) → Takes l d s → does z l (desk d s) ≡ deskDoes z l d (carried nowhere (deskAt (l .head) d)) s
   unfolding does deskStep admitted
   takes-step d s k = rw (gt→false (l .head .t) d (k .there), not→false (noBlock z s) (on-line s .1 (k .on)), k .grid)
 
   -- ---- every deed, on a sound line
 
   module _ (pos : 0 < NB) (g : Sound l) where
-    told : (e : Deed) → NoOrder e → Told e (does z l e)
+    told : (e : Deed) → NoOrder e → Says e (does z l e)
     unfolding does getStep readAt
     told (put a) n = put-told a
-    told get n = by-test (Told get) (isRead l (reached l)) (λ _. tt) (λ f. let (r, c) = empty-when l pos g .0 f in ((refl, r, c), refl))
+    told get n = by-test (Says get) (isRead l (reached l)) (λ _. tt) (λ f. let (r, c) = empty-when l pos g .0 f in ((refl, r, c), refl))
     told (order a b) n = absurd (n a b refl)
     told (desk d s) n = desk-told d s
     told unlisted n = (refl, refl)
 
     -- and a sentence settles the tests of its deed
     pub when-refused : (w : Refusal) (e : Deed) → When l w e → (does z l e) .answer ≡ Refused w 0
-    unfolding does putStep mayPut placeable startable isBusy isLabel orderStep getStep readAt deskStep admitted taken lookStep lookable isOwned claimStep
+    unfolding does putStep mayPut placeable startable isBusy isLabel orderStep getStep readAt deskStep admitted deskDoes lookStep lookable isOwned claimStep
     when-refused Unfit e h = absurd h
     when-refused Damaged e h = absurd h
     when-refused Badstep e h = rw h
@@ -317,8 +317,8 @@ module _ (l : Line) where
     unfolding readAt
     read-left s = by-test Left (s .place <ᵇ (recordOf z (l .table) (s .turn)) .written) (λ _. tt) (λ _. (λ _ h. absurd (h refl), refl, refl))
 
-    taken-left : (d : ℕ) (x : Spot) (s : DeskStep) → Left (taken z l d x s)
-    unfolding taken lookStep claimStep fetchStep finishStep
+    taken-left : (d : ℕ) (x : Spot) (s : DeskStep) → Left (deskDoes z l d x s)
+    unfolding deskDoes lookStep claimStep fetchStep finishStep
     taken-left d x (look i) = by-verdict Left (lookable z (l .head .p) (l .head .k) i _) (λ _. tt) (λ w _. stays w)
     taken-left d x claim = by-test Left (winnable z l x) (λ _. tt) (λ _. (λ h _. absurd (h refl), refl, refl))
     taken-left d x fetch = tt
@@ -352,7 +352,7 @@ head-alone l s w n x e = let (_, t, c) = refusal-left l s w n x e in (t, c)
 -- ---- LOST and EMPTY
 
 pub lost-leaves : LostLeaves
-unfolding LostLeaves RefusedWhen does deskStep admitted taken claimStep
+unfolding LostLeaves RefusedWhen does deskStep admitted deskDoes claimStep
 lost-leaves l s n f g x e =
     let (d, y, q, t, k, o) = (refused-when l s Lost n f g x .0 e) .0 in
     let w = winnable (sizeOf (l .head)) l y in

@@ -10,11 +10,11 @@ use lib.ListN.{replicate, length-replicate}
 use Rattle.book.specs.Sizes.{Size, fits, blockOf}
 use Rattle.book.specs.Steps.{Deed, put, get, order, desk, unlisted, idle}
 use Rattle.book.proofs.Total.{total-replicate, replicate-at}
-use Rattle.line.specs.Line.{Line, LentDesk, lent, deskOf, deskAt, unused, recordOf, does, opened}
+use Rattle.line.specs.Line.{Line, LentDesk, numbersOf, deskOf, deskAt, unused, recordOf, does, opened}
 use Rattle.line.specs.Rules.{heldIn}
 use Rattle.line.specs.Agrees.{Lawful}
 use Rattle.line.proofs.Cells.{Valid, valid, Stands}
-use Rattle.line.proofs.Told.{Told, lawful}
+use Rattle.line.proofs.ByTurns.{ByTurns, lawful}
 use Rattle.line.proofs.Kept.{desk-lent}
 use Rattle.line.proofs.SoundPut.{put-lawful, order-lawful}
 use Rattle.line.proofs.SoundGet.{get-lawful}
@@ -34,14 +34,14 @@ does-lawful z l unlisted w = w
 module _ (z : Size) where
   all-idle : (d : ℕ) → deskAt ((opened z) .head) d ≡ idle
   unfolding opened
-  all-idle d = ap deskOf (replicate-at 16 d (lent idle)) ∙ desk-lent idle
+  all-idle d = ap deskOf (replicate-at 16 d (numbersOf idle)) ∙ desk-lent idle
 
   all-unused : (t : ℕ) → recordOf z ((opened z) .table) t ≡ unused
   unfolding opened recordOf
   all-unused t = replicate-at (z .nb) (blockOf z t) unused
 
   -- turn 0, the only one of the window
-  unused-stands : (t : ℕ) → t ≤ 0 → Stands z 0 (replicate 16 (lent idle)) t unused
+  unused-stands : (t : ℕ) → t ≤ 0 → Stands z 0 (replicate 16 (numbersOf idle)) t unused
   unused-stands t h = record {
     round = rw (let e : t ≡ 0 = omega arith in e) (sym (zero-div (z .nb)));
     fits = zero-le;
@@ -49,20 +49,20 @@ module _ (z : Size) where
     some = λ _ n. absurd (n refl);
     claims = zero-le;
     zeroth = λ _. refl;
-    holders = omega (arith, total-replicate (λ (x : LentDesk). heldIn t (deskOf x)) 16 (lent idle) (ap (heldIn t) (desk-lent idle)));
+    holders = omega (arith, total-replicate (λ (x : LentDesk). heldIn t (deskOf x)) 16 (numbersOf idle) (ap (heldIn t) (desk-lent idle)));
   }
 
-  opened-told : Valid z → Told (opened z)
+  opened-told : Valid z → ByTurns (opened z)
   unfolding opened
   opened-told v = record {
     valid = v;
     blocks = length-replicate (z .nb) unused;
     room = length-replicate (z .nb * z .ne) 0;
-    many = length-replicate 16 (lent idle);
+    many = length-replicate 16 (numbersOf idle);
     one = record { below = zero-le; near = zero-le; rounds = omega arith };
     two = record { from = rw (all-unused 0) zero-le; to = zero-le };
     three = record {
-      stages = λ d. rw (replicate-at 16 d (lent idle)) zero-le;
+      stages = λ d. rw (replicate-at 16 d (numbersOf idle)) zero-le;
       idles = λ d _. all-idle d;
       desks = λ d. rw (all-idle d) tt;
       apart = λ d e s _ h. absurd (rw (all-idle d) at h);

@@ -16,16 +16,16 @@ use Rattle.book.specs.Steps.{DeskStep, look, claim, fetch, finish, Desk, idle, 
 use Rattle.book.specs.Verdicts.{Verdict, judge, stage, column, atStage, noBlock, admitted, lookable}
 use Rattle.book.proofs.Choice.{by-test, and-first, and-second, T→true, neq-test, neq→eqb}
 use Rattle.book.proofs.Turns.{current-low, current-high}
-use Rattle.line.specs.Line.{Line, Block, Spot, Outcome, nowhere, lent, deskAt, sizeOf, withDesk, withHead, withRecord}
-use Rattle.line.specs.Line.{oneClaimed, oneFinished, refuse, lookStep, winnable, claimStep, fetchStep, finishStep, taken, deskStep}
+use Rattle.line.specs.Line.{Line, Block, Spot, Outcome, nowhere, numbersOf, deskAt, sizeOf, withDesk, withHead, withRecord}
+use Rattle.line.specs.Line.{oneClaimed, oneFinished, refuse, lookStep, winnable, claimStep, fetchStep, finishStep, deskDoes, deskStep}
 use Rattle.line.specs.Rules.{heldIn, Holds, DeskRule}
 use Rattle.line.specs.Agrees.{Lawful}
 use Rattle.line.proofs.Current.{current→window, window→current, record-same}
 use Rattle.line.proofs.Cells.{Stands, here}
-use Rattle.line.proofs.Told.{In, Told, told, some-block, lawful}
+use Rattle.line.proofs.ByTurns.{In, ByTurns, told, some-block, lawful}
 use Rattle.line.proofs.Kept.{held-one, held-rule, holders-set, Apart, three-desk, stands-by, Grows, three-record, told-record}
 
-module _ (l : Line) (g : Told l) where
+module _ (l : Line) (g : ByTurns l) where
   abbrev z : Size
   z = sizeOf (l .head)
 
@@ -54,7 +54,7 @@ module _ (l : Line) (g : Told l) where
       valid = g .valid;
       blocks = g .blocks;
       room = g .room;
-      many = length-set (l .head .desks) d (lent x) ∙ g .many;
+      many = length-set (l .head .desks) d (numbersOf x) ∙ g .many;
       one = record { below = g .one .below; near = g .one .near; rounds = g .one .rounds };
       two = record { from = g .two .from; to = g .two .to };
       three = three-desk l d x there (g .three) (λ e n s a b. g .three .apart e d s n b (held s a)) below rule;
@@ -88,12 +88,12 @@ module _ (l : Line) (g : Told l) where
 
     -- ---- desk d becomes x, and the record of turn t becomes c
 
-    both : (x : Desk Spot) (t : ℕ) (c : Block) → Grows l t c → Stands z p (set (l .head .desks) d (lent x)) t c
+    both : (x : Desk Spot) (t : ℕ) (c : Block) → Grows l t c → Stands z p (set (l .head .desks) d (numbersOf x)) t c
         → ((u : ℕ) → u ≢ t → heldIn u x ≡ heldIn u was) → DeskRule (withRecord z l (l .head) t c) x → ((e : ℕ) → e ≢ d → Apart x (deskAt (l .head) e))
         → Lawful z (withRecord z l (withDesk (l .head) d x) t c)
     both x t c r new others rule apart =
         lawful (withRecord z l (withDesk (l .head) d x) t c)
-        (told-record l g t c r (l .entries) (set (l .head .desks) d (lent x)) (length-set (l .head .desks) d (lent x) ∙ g .many) refl new
+        (told-record l g t c r (l .entries) (set (l .head .desks) d (numbersOf x)) (length-set (l .head .desks) d (numbersOf x) ∙ g .many) refl new
         (λ u n. omega (arith, holders-set (l .head) d x there u, others u n))
         (three-desk (withRecord z l (l .head) t c) d x there (three-record l g t c r (l .entries)) apart below rule))
 
@@ -129,7 +129,7 @@ module _ (l : Line) (g : Told l) where
       abbrev c : Block
       c = oneClaimed (here l t)
 
-      one-claimed : Stands z p (set (l .head .desks) d (lent (claimed s))) t c
+      one-claimed : Stands z p (set (l .head .desks) d (numbersOf (claimed s))) t c
       one-claimed = let o = g .turns t (won .turn) in record {
         round = o .round;
         fits = o .fits;
@@ -165,7 +165,7 @@ module _ (l : Line) (g : Told l) where
       held-turn : In l (s .turn)
       held-turn = let r : DeskRule l (fetched s) = rw e at (g .three .desks d) in current→window z p (s .turn) (some-block l g) (r .0)
 
-      one-finished : Stands z p (set (l .head .desks) d (lent idle)) (s .turn) (oneFinished (here l (s .turn)))
+      one-finished : Stands z p (set (l .head .desks) d (numbersOf idle)) (s .turn) (oneFinished (here l (s .turn)))
       one-finished = let o = g .turns (s .turn) held-turn in record {
         round = o .round;
         fits = o .fits;
@@ -185,8 +185,8 @@ module _ (l : Line) (g : Told l) where
 
     -- ---- the grid, a stage at a time
 
-    at-stage : (x : Desk Spot) (s : DeskStep) → was ≡ x → Judged (taken z l d (carried nowhere x) s) (atStage (stage x) (column s))
-    unfolding taken
+    at-stage : (x : Desk Spot) (s : DeskStep) → was ≡ x → Judged (deskDoes z l d (carried nowhere x) s) (atStage (stage x) (column s))
+    unfolding deskDoes
     at-stage idle (look i) e = look-lawful i (λ u. ap (heldIn u) e)
     at-stage idle claim e = unchanged
     at-stage idle fetch e = unchanged

@@ -12,9 +12,9 @@ use Rattle.book.proofs.Choice.{by-test, and-second}
 use Rattle.line.specs.Line.{Line, Spot, Outcome, sizeOf, withHead, getAt, reach, readAt, getStep}
 use Rattle.line.specs.Agrees.{Lawful}
 use Rattle.line.proofs.Cells.{here}
-use Rattle.line.proofs.Told.{Told, told, lawful}
+use Rattle.line.proofs.ByTurns.{ByTurns, told, lawful}
 
-module _ (l : Line) (g : Told l) where
+module _ (l : Line) (g : ByTurns l) where
   abbrev z : Size
   z = sizeOf (l .head)
 

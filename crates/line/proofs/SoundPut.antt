@@ -16,16 +16,16 @@ use Rattle.book.specs.Steps.{idle}
 use Rattle.book.specs.Verdicts.{Verdict, takes, refuses, startable, placeable}
 use Rattle.book.proofs.Choice.{by-test, by-verdict, cases, T→true, not→false, neq-test}
 use Rattle.book.proofs.Total.{total-zero, total-none}
-use Rattle.line.specs.Line.{Line, LentDesk, Block, Spot, Outcome, lent, deskOf, deskAt, sizeOf, oneWritten, entryOf}
-use Rattle.line.specs.Line.{isBusy, mayPut, labelled, stored, putStep, putMany, orderStep}
+use Rattle.line.specs.Line.{Line, LentDesk, Block, Spot, Outcome, numbersOf, deskOf, deskAt, sizeOf, oneWritten, entryOf}
+use Rattle.line.specs.Line.{isBusy, mayPut, labelled, withLabel, putStep, putMany, orderStep}
 use Rattle.line.specs.Rules.{heldIn, Holds, DeskRule}
 use Rattle.line.specs.Agrees.{Lawful}
 use Rattle.line.proofs.Current.{current→window, window→current, record-apart, record-later, each-turn}
 use Rattle.line.proofs.Cells.{held, Stands, here}
-use Rattle.line.proofs.Told.{In, Told, told, some-block, lawful}
+use Rattle.line.proofs.ByTurns.{In, ByTurns, told, some-block, lawful}
 use Rattle.line.proofs.Kept.{desk-lent, held-one, held-none, held-rule, desk-kept, Grows, three-record, told-record}
 
-module _ (l : Line) (g : Told l) where
+module _ (l : Line) (g : ByTurns l) where
   abbrev z : Size
   z = sizeOf (l .head)
 
@@ -77,7 +77,7 @@ module _ (l : Line) (g : Told l) where
 
   none-next : held (l .head .desks) next ≡ 0
   none-next =
-      total-none (λ (y : LentDesk). heldIn next (deskOf y)) (l .head .desks) (lent idle)
+      total-none (λ (y : LentDesk). heldIn next (deskOf y)) (l .head .desks) (numbersOf idle)
       (λ d. held-none (deskAt (l .head) d) next (λ x h e. omega (arith, held-in d x h .low)))
 
   -- what the tests leave: K stays in the window, nobody holds a spot of turn Q, and the round is not worn
@@ -105,7 +105,7 @@ module _ (l : Line) (g : Told l) where
         let held : LentDesk → ℕ = λ y. heldIn t (deskOf y) in
         cases (t + z .nb ≡ᵇ next)
         (λ e. let none = f .spare t (eqb→eq (t + z .nb) next e) in
-        absurd (omega (arith, held-one (deskAt (l .head) d) x h, total-zero held (l .head .desks) d (lent idle) (ap (heldIn t) (desk-lent idle)) none)))
+        absurd (omega (arith, held-one (deskAt (l .head) d) x h, total-zero held (l .head .desks) d (numbersOf idle) (ap (heldIn t) (desk-lent idle)) none)))
         (λ e. let n = neq-test (t + z .nb) next e in record { low = omega (arith, v .low); high = omega (arith, v .high) })
 
     desk-stays : (d : ℕ) → DeskRule l′ (deskAt (l .head) d)
@@ -189,19 +189,19 @@ module _ (l : Line) (g : Told l) where
         fresh = fresh;
       })))))
 
-  own-stored : (a : ℕ) → Judged (stored z l a) (mayPut z l a)
-  unfolding mayPut placeable stored
+  own-stored : (a : ℕ) → Judged (withLabel z l a) (mayPut z l a)
+  unfolding mayPut placeable withLabel
   own-stored a =
       let w = (here l p) .written in
-      by-test (Judged (stored z l a)) (not (isLabel a)) (λ _. tt) (λ _.
+      by-test (Judged (withLabel z l a)) (not (isLabel a)) (λ _. tt) (λ _.
       cases (w <ᵇ z .ne)
       (λ s. rw (T→true (w <ᵇ z .ne) s) (same-lawful a (ltb→lt w (z .ne) s)))
       (λ s. rw (not→false (w <ᵇ z .ne) s) (start-lawful a (nltb→le w (z .ne) s))))
 
-pub stored-lawful : (z : Size) (l : Line) (a : ℕ) → Lawful z l → mayPut z l a ≡ takes → Lawful z (stored z l a)
+pub stored-lawful : (z : Size) (l : Line) (a : ℕ) → Lawful z l → mayPut z l a ≡ takes → Lawful z (withLabel z l a)
 stored-lawful z l a w =
-    subst (λ (x : Size). Lawful x l → mayPut x l a ≡ takes → Lawful x (stored x l a)) (w .size)
-    (λ v e. let g = told l v in subst (Judged l g (stored (sizeOf (l .head)) l a)) e (own-stored l g a)) w
+    subst (λ (x : Size). Lawful x l → mayPut x l a ≡ takes → Lawful x (withLabel x l a)) (w .size)
+    (λ v e. let g = told l v in subst (Judged l g (withLabel (sizeOf (l .head)) l a)) e (own-stored l g a)) w
 
 -- ---- put and order: a refusal leaves the line, and what was placed stays
 
@@ -214,7 +214,7 @@ unfolding putMany
 many-lawful z zero l a count w = w
 many-lawful z (suc n) l a count w =
     by-verdict (λ (o : Outcome). Lawful z (o .line)) (mayPut z l a)
-    (λ e. many-lawful z n (stored z l a) (suc a) (suc count) (stored-lawful z l a w e)) (λ _ _. w)
+    (λ e. many-lawful z n (withLabel z l a) (suc a) (suc count) (stored-lawful z l a w e)) (λ _ _. w)
 
 pub order-lawful : (z : Size) (l : Line) (a e : ℕ) → Lawful z l → Lawful z ((orderStep z l a e) .line)
 unfolding orderStep

@@ -18,7 +18,7 @@ use Rattle.book.specs.Sizes.{Size, fits}
 use Rattle.book.specs.Steps.{Step, look, desk, idle, decode}
 use Rattle.book.specs.Verdicts.{Verdict, takes, refuses, judge, admitted}
 use Rattle.book.proofs.Choice.{by-test, choose-true, choose-false, and-first, le→true, gt→false}
-use Rattle.line.specs.Line.{Line, Spot, Outcome, sizeOf, deskAt, lookStep, taken, deskStep, does}
+use Rattle.line.specs.Line.{Line, Spot, Outcome, sizeOf, deskAt, lookStep, deskDoes, deskStep, does}
 use Rattle.line.specs.Rules.{Sound}
 use Rattle.line.specs.Check.{fit}
 use Rattle.line.specs.Calls.{step}
@@ -140,7 +140,7 @@ module _ (l : Line) where
   look-same d e b = simp judge-answer
 
   seen-same : (d e b : ℕ) → d < l .head .t → e < l .head .t → seen d b ≡ seen e b
-  unfolding deskStep taken
+  unfolding deskStep deskDoes
   seen-same d e b h k = simp (judge-answer, admitted-same d e b h k, look-same d e b)
 
   -- and none sees a block that is not there

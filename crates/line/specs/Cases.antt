@@ -9,9 +9,9 @@ use Rattle.words.specs.declared.Refusal.the-variants.{Unfit, Damaged, Badstep, 
 use Rattle.words.specs.declared.Refusal.the-variants.{Lost, Notlabel, Range, Worn, Full, Busy, Empty}
 use Rattle.book.specs.Sizes.{Size}
 use Rattle.book.specs.Steps.{Step, idle, looked, claimed, fetched}
-use Rattle.line.specs.Line.{Line, Outcome, says, lent, opened}
+use Rattle.line.specs.Line.{Line, Outcome, says, numbersOf, opened}
 use Rattle.line.specs.Calls.{Opened, open·line, open·unfit, opens, step, orders, answers, after}
-use Rattle.line.specs.Survey.{Surveyed, surveyed, survey·unfit, survey·damaged, Views, survey}
+use Rattle.line.specs.Survey.{Surveyed, surveyed, survey·unfit, survey·damaged, Findings, survey}
 use Rattle.line.specs.Samples.{size, spot, fresh, started, middle, read, won, ends, stolen, five, lengths, short}
 use Rattle.line.specs.Samples.{withP, withK, withReading, withDesk, withStage, withRound, withWritten, withClaimed, withFinished, withEntry}
 
@@ -43,19 +43,19 @@ finish d = code (48 + d) 0 0
 abbrev look : ℕ → ℕ → Step
 look d i = code (64 + d) i 0
 
-pub record Told : Type 0 where
+pub record ByTurns : Type 0 where
   pub step : Step
   pub answer : Answer
 
 infix 70 _gives_
-abbrev _gives_ : Step → Answer → Told
+abbrev _gives_ : Step → Answer → ByTurns
 s gives a = record { step = s; answer = a }
 
 pub record Run : Type 0 where
   pub line : Line
-  pub told : List Told
+  pub told : List ByTurns
 
-abbrev from : Line → List Told → Run
+abbrev from : Line → List ByTurns → Run
 from l ts = record { line = l; told = ts }
 
 abbrev pub Answers : List Run → Type 0
@@ -289,7 +289,7 @@ OrderCases =
 
 pub record Look : Type 0 where
   pub line : Line
-  pub views : Views
+  pub views : Findings
 
 abbrev tells : Line → ℕ → ℕ → ℕ → Look
 tells l mask count lowest = record { line = l; views = record { answer = surveyed; mask = mask; count = count; lowest = lowest } }
@@ -349,4 +349,4 @@ OpeningCases =
 -- ---- a desk that a step makes idle, and each of opening's, is written as zeros
 
 unfoldable pub IdleCases : Type 0
-IdleCases = lent idle ≡ record { stage = 0; place = 0; turn = 0 }
+IdleCases = numbersOf idle ≡ record { stage = 0; place = 0; turn = 0 }

@@ -8,7 +8,7 @@ use Rattle.book.specs.Total.{total, any, all}
 use Rattle.book.specs.Sizes.{Size, fits, blockOf, roundOf, isUsed, currentTurn}
 use Rattle.book.specs.Steps.{Desk, idle, looked, claimed, fetched}
 use Rattle.line.specs.Line.{Line, LentDesk, Block, Spot, deskOf, unused, sizeOf, recordOf}
-use Rattle.line.specs.Rules.{heldIn, Rule, rule1, rule2, rule3, rule4, rule5, rule6, rule7, numberOf, Asked, inOrder}
+use Rattle.line.specs.Rules.{heldIn, Rule, rule1, rule2, rule3, rule4, rule5, rule6, rule7, ruleNumber, RuleAt, inOrder}
 pub use Rattle.line.specs.declared.Checked.{Checked}
 pub use Rattle.line.specs.declared.Checked.the-variants.{Sound as sound, Unfit as unfit, Broken as broken}
 
@@ -104,9 +104,9 @@ module _ (l : Line) where
   holds i rule7 = holds7 i
 
   -- the first rule broken
-  unfoldable pub firstBroken : List Asked → Checked
+  unfoldable pub firstBroken : List RuleAt → Checked
   firstBroken [] = sound
-  firstBroken (a ∷ l) = let rest = firstBroken l in if holds (a .place) (a .rule) then rest else broken (a .place) (numberOf (a .rule))
+  firstBroken (a ∷ l) = let rest = firstBroken l in if holds (a .place) (a .rule) then rest else broken (a .place) (ruleNumber (a .rule))
 
   unfoldable pub check : Checked
   check = if fit z (l .table) (l .entries) then firstBroken (inOrder (l .head .nb)) else unfit

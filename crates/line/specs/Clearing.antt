@@ -12,7 +12,7 @@ use Rattle.words.specs.declared.Answer.the-variants.{Put, Refused}
 use Rattle.words.specs.declared.Refusal.the-variants.{Worn, Busy, Empty}
 use Rattle.book.specs.Sizes.{Size, fits, isLabel, roundOf}
 use Rattle.book.specs.Steps.{Step}
-use Rattle.book.specs.Counts.{placed, got, taken}
+use Rattle.book.specs.Counts.{placed, got, took}
 use Rattle.book.specs.Cases.{put, get}
 use Rattle.book.specs.Clearing.{settling}
 use Rattle.line.specs.Line.{Line, sizeOf, deskOf, deskAt, opened}
@@ -48,7 +48,7 @@ pub record LineClears (z : Size) (ss : List Step) (l : Line) : Type 0 where
   -- the last get is EMPTY
   pub empty : (m : List Answer) × (answers l (clearing l) ≡ m ++ (Refused Empty 0 ∷ []))
   -- of the whole run: every label placed was got or fetched
-  pub all : let m = answers (opened z) (ss ++ clearing l) in placed m ≡ got m + taken m
+  pub all : let m = answers (opened z) (ss ++ clearing l) in placed m ≡ got m + took m
   -- the next label is placed, or the line is worn
   pub next : (a : ℕ) → T (isLabel a) → IsPlaced (after l (clearing l)) a ⊎ IsWorn (after l (clearing l)) a
 

@@ -12,9 +12,9 @@ use Rattle.book.specs.Sizes.{Size, fits, isOrder}
 use Rattle.book.specs.Steps.{Step, look, claim, Deed, get, order, desk, idle, decode}
 use Rattle.book.specs.Verdicts.{refuses}
 use Rattle.book.specs.Book as B
-use Rattle.book.specs.Counts.{placed, got, taken, won, lost, unfetched, waiting, handed, times, bound}
+use Rattle.book.specs.Counts.{placed, got, took, won, lost, unfetched, waiting, handed, times, bound}
 use Rattle.line.specs.Line.{Line, Outcome, sizeOf, deskAt, getAt, withDesk, withHead, recordOf, deskStep, mayPut, opened}
-use Rattle.line.specs.Rules.{Sound, Asked, numberOf, inOrder, Obeys}
+use Rattle.line.specs.Rules.{Sound, RuleAt, ruleNumber, inOrder, Obeys}
 use Rattle.line.specs.Check.{sound, unfit, broken, fit, check}
 use Rattle.line.specs.Calls.{open·line, open·unfit, opens, step, orders, answers, after}
 use Rattle.line.specs.Survey.{survey, surveyed, survey·unfit, survey·damaged, none}
@@ -34,14 +34,14 @@ CheckSound = (l : Line) → (check l ≡ sound) ↔ (Fit l × Sound l)
 
 -- the rule that is named is broken at the place that is named, and none before it is
 pub record FirstBroken (l : Line) (place rule : ℕ) : Type 0 where
-  pub before : List Asked
-  pub named : Asked
-  pub behind : List Asked
+  pub before : List RuleAt
+  pub named : RuleAt
+  pub behind : List RuleAt
   pub order : inOrder (l .head .nb) ≡ before ++ (named ∷ behind)
   pub there : named .place ≡ place
-  pub number : numberOf (named .rule) ≡ rule
+  pub number : ruleNumber (named .rule) ≡ rule
   pub is-broken : Obeys l named → ⊥
-  pub none-before : (x y : List Asked) (a : Asked) → before ≡ x ++ (a ∷ y) → Obeys l a
+  pub none-before : (x y : List RuleAt) (a : RuleAt) → before ≡ x ++ (a ∷ y) → Obeys l a
 
 unfoldable pub CheckBroken : Type 0
 CheckBroken = (l : Line) (place rule : ℕ) → check l ≡ broken place rule → Fit l × FirstBroken l place rule
@@ -148,7 +148,7 @@ LineCounting =
     (z : Size) (ss : List Step) → T (fits z)
     → let l = answers (opened z) ss in
     let b = B.after z (B.opened z) ss in
-    placed l ≡ got l + taken l + unfetched b + waiting b
+    placed l ≡ got l + took l + unfetched b + waiting b
 
 -- no row's label leaves twice
 unfoldable pub LineHanded : Type 0
@@ -176,7 +176,7 @@ pub record LeastBit (mask b : ℕ) : Type 0 where
 abbrev Sees : Outcome → Type 0
 Sees o = (place : ℕ) × (o .answer ≡ Seen place)
 
-pub record Surveys (l : Line) : Type 0 where
+pub record SurveyNames (l : Line) : Type 0 where
   -- bit b is set exactly if an idle desk's look at block b would be SEEN
   pub bits : (d b : ℕ) → d < l .head .t → (bitAt ((survey l) .mask) b ≡ 1) ↔ Sees (deskStep (sizeOf (l .head)) l d (look b) idle)
   -- and so if the look of a desk that is idle is
@@ -185,7 +185,7 @@ pub record Surveys (l : Line) : Type 0 where
   pub lowest : LeastBit ((survey l) .mask) ((survey l) .lowest)
 
 unfoldable pub SurveyTells : Type 0
-SurveyTells = (l : Line) → Fit l → Sound l → Surveys l
+SurveyTells = (l : Line) → Fit l → Sound l → SurveyNames l
 
 -- ---- demand 3
 

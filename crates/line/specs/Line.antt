@@ -55,14 +55,14 @@ deskOf x =
 abbrev at : ℕ → Spot → LentDesk
 at n s = record { stage = n; place = s .place; turn = s .turn }
 
-abbrev pub lent : Desk Spot → LentDesk
-lent idle = at 0 nowhere
-lent (looked s) = at 1 s
-lent (claimed s) = at 2 s
-lent (fetched s) = at 3 s
+abbrev pub numbersOf : Desk Spot → LentDesk
+numbersOf idle = at 0 nowhere
+numbersOf (looked s) = at 1 s
+numbersOf (claimed s) = at 2 s
+numbersOf (fetched s) = at 3 s
 
 abbrev pub deskAt : Head → ℕ → Desk Spot
-deskAt h d = deskOf (getD (h .desks) d (lent idle))
+deskAt h d = deskOf (getD (h .desks) d (numbersOf idle))
 
 -- ---- a changed head, record, line
 
@@ -73,7 +73,7 @@ abbrev pub getAt : Head → Spot → Head
 getAt h s = record { nb = h .nb; ne = h .ne; t = h .t; reading = s .place; p = h .p; k = s .turn; desks = h .desks }
 
 abbrev pub withDesk : Head → ℕ → Desk Spot → Head
-withDesk h d x = record { nb = h .nb; ne = h .ne; t = h .t; reading = h .reading; p = h .p; k = h .k; desks = set (h .desks) d (lent x) }
+withDesk h d x = record { nb = h .nb; ne = h .ne; t = h .t; reading = h .reading; p = h .p; k = h .k; desks = set (h .desks) d (numbersOf x) }
 
 abbrev pub unused : Block
 unused = record { round = 0; written = 0; claimed = 0; finished = 0 }
@@ -116,21 +116,21 @@ module _ (z : Size) where
   abbrev pub labelled : Line → ℕ → ℕ → Block → ℕ → Line
   labelled l t q c a = record { head = putAt (l .head) t; table = set (l .table) (blockOf z t) c; entries = set (l .entries) (entryOf t q) a }
 
-  unfoldable pub stored : Line → ℕ → Line
-  stored l a =
+  unfoldable pub withLabel : Line → ℕ → Line
+  withLabel l a =
       let p = l .head .p in
       let c = recordOf (l .table) p in
       if c .written <ᵇ z .ne then labelled l p (c .written) (oneWritten c) a
       else labelled l (p + 1) 0 (record { round = roundOf z (p + 1); written = 1; claimed = 0; finished = 0 }) a
 
   unfoldable pub putStep : Line → ℕ → Outcome
-  putStep l a = judge (mayPut l a) (says (stored l a) (Put a)) (refuse l)
+  putStep l a = judge (mayPut l a) (says (withLabel l a) (Put a)) (refuse l)
 
   -- puts n labels from a on, count of the order being placed, until one is refused
   unfoldable pub putMany : ℕ → Line → ℕ → ℕ → Outcome
   putMany zero l a count = says l (Whole count)
   putMany (suc n) l a count =
-      let more = putMany n (stored l a) (suc a) (suc count) in
+      let more = putMany n (withLabel l a) (suc a) (suc count) in
       judge (mayPut l a) more (λ w. says l (Refused w count))
 
   unfoldable pub orderStep : Line → ℕ → ℕ → Outcome
@@ -185,14 +185,14 @@ module _ (z : Size) where
   finishStep l d s = says (withRecord l (withDesk (l .head) d idle) (s .turn) (oneFinished (recordOf (l .table) (s .turn)))) Done
 
   -- the step of desk d, which the grid lets it take, with the spot that it carries
-  unfoldable pub taken : Line → ℕ → Spot → DeskStep → Outcome
-  taken l d s (look i) = lookStep l d i
-  taken l d s claim = claimStep l d s
-  taken l d s fetch = fetchStep l d s
-  taken l d s finish = finishStep l d s
+  unfoldable pub deskDoes : Line → ℕ → Spot → DeskStep → Outcome
+  deskDoes l d s (look i) = lookStep l d i
+  deskDoes l d s claim = claimStep l d s
+  deskDoes l d s fetch = fetchStep l d s
+  deskDoes l d s finish = finishStep l d s
 
   unfoldable pub deskStep : Line → ℕ → DeskStep → Desk Spot → Outcome
-  deskStep l d s x = judge (admitted z d s x) (taken l d (carried nowhere x) s) (refuse l)
+  deskStep l d s x = judge (admitted z d s x) (deskDoes l d (carried nowhere x) s) (refuse l)
 
   -- a step on a sound line
   unfoldable pub does : Line → Deed → Outcome
@@ -204,7 +204,7 @@ module _ (z : Size) where
 
   unfoldable pub opened : Line
   opened = record {
-    head = record { nb = z .nb; ne = z .ne; t = z .t; reading = 0; p = 0; k = 0; desks = replicate 16 (lent idle) };
+    head = record { nb = z .nb; ne = z .ne; t = z .t; reading = 0; p = 0; k = 0; desks = replicate 16 (numbersOf idle) };
     table = replicate (z .nb) unused;
     entries = replicate (z .nb * z .ne) 0;
   }

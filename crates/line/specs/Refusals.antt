@@ -8,7 +8,7 @@ use Rattle.words.specs.declared.Refusal.the-variants.{Unfit, Damaged, Badstep, 
 use Rattle.book.specs.Sizes.{Size, roundOf, currentTurn}
 use Rattle.book.specs.Steps.{DeskStep, look, claim, fetch, finish, Deed, put, get, order, desk, unlisted, looked}
 use Rattle.book.specs.Verdicts.{takes, refuses, stage, column, atStage}
-use Rattle.line.specs.Line.{Line, Block, Spot, deskAt, sizeOf, recordOf, stored, mayPut}
+use Rattle.line.specs.Line.{Line, Block, Spot, deskAt, sizeOf, recordOf, withLabel, mayPut}
 use Rattle.line.specs.Rules.{Current}
 
 module _ (l : Line) where
@@ -67,7 +67,7 @@ module _ (l : Line) where
 -- the line after n of an order's labels from a on are placed
 unfoldable pub afterPuts : Size → ℕ → Line → ℕ → Line
 afterPuts z zero l a = l
-afterPuts z (suc n) l a = afterPuts z n (stored z l a) (suc a)
+afterPuts z (suc n) l a = afterPuts z n (withLabel z l a) (suc a)
 
 -- the first n labels of the order from a on are placed
 abbrev pub Places : Size → ℕ → Line → ℕ → Type 0

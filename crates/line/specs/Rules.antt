@@ -8,7 +8,7 @@ use Rattle.book.specs.Choice.{if_then_else_, _≡ᵇ_}
 use Rattle.book.specs.Total.{total}
 use Rattle.book.specs.Sizes.{Size, blockOf, roundOf, currentTurn}
 use Rattle.book.specs.Steps.{Desk, idle, looked, claimed, fetched}
-use Rattle.line.specs.Line.{Line, Block, Spot, lent, deskOf, deskAt, unused, sizeOf, recordOf}
+use Rattle.line.specs.Line.{Line, Block, Spot, numbersOf, deskOf, deskAt, unused, sizeOf, recordOf}
 
 -- is this desk claimed or fetched: in turn t, as a count; at spot s
 abbrev pub heldIn : ℕ → Desk Spot → ℕ
@@ -51,7 +51,7 @@ module _ (l : Line) where
 
   -- a stage above 3 is no stage
   pub record Rule3 : Type 0 where
-    pub stages : (d : ℕ) → (getD (l .head .desks) d (lent idle)) .stage ≤ 3
+    pub stages : (d : ℕ) → (getD (l .head .desks) d (numbersOf idle)) .stage ≤ 3
     pub idles : (d : ℕ) → l .head .t ≤ d → deskAt (l .head) d ≡ idle
     pub desks : (d : ℕ) → DeskRule (deskAt (l .head) d)
     pub apart : (d e : ℕ) (s : Spot) → d ≢ e → Holds (deskAt (l .head) d) s → Holds (deskAt (l .head) e) s → ⊥
@@ -96,32 +96,32 @@ module _ (l : Line) where
 pub data Rule : Type 0 where
   rule1 rule2 rule3 rule4 rule5 rule6 rule7 : Rule
 
-abbrev pub numberOf : Rule → ℕ
-numberOf rule1 = 1
-numberOf rule2 = 2
-numberOf rule3 = 3
-numberOf rule4 = 4
-numberOf rule5 = 5
-numberOf rule6 = 6
-numberOf rule7 = 7
+abbrev pub ruleNumber : Rule → ℕ
+ruleNumber rule1 = 1
+ruleNumber rule2 = 2
+ruleNumber rule3 = 3
+ruleNumber rule4 = 4
+ruleNumber rule5 = 5
+ruleNumber rule6 = 6
+ruleNumber rule7 = 7
 
-pub record Asked : Type 0 where
+pub record RuleAt : Type 0 where
   pub place : ℕ
   pub rule : Rule
 
-abbrev pub ask : ℕ → Rule → Asked
+abbrev pub ask : ℕ → Rule → RuleAt
 ask i r = record { place = i; rule = r }
 
 -- the order in which they are asked: the head's rules, then the blocks', lowest block first
-unfoldable pub ofBlocks : ℕ → ℕ → List Asked
+unfoldable pub ofBlocks : ℕ → ℕ → List RuleAt
 ofBlocks i zero = []
 ofBlocks i (suc n) = ask i rule4 ∷ ask i rule5 ∷ ask i rule6 ∷ ask i rule7 ∷ ofBlocks (suc i) n
 
-unfoldable pub inOrder : ℕ → List Asked
+unfoldable pub inOrder : ℕ → List RuleAt
 inOrder nb = ask 64 rule1 ∷ ask 64 rule2 ∷ ask 64 rule3 ∷ ofBlocks 0 nb
 
 -- what a rule asks at a place
-abbrev pub Obeys : Line → Asked → Type 0
+abbrev pub Obeys : Line → RuleAt → Type 0
 Obeys l a = obeys (a .place) (a .rule)
   where
     obeys : ℕ → Rule → Type 0

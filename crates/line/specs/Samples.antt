@@ -5,7 +5,7 @@ use Prim.Native.Nat.{ℕ, _-_}
 use lib.ListN.{length, getD, set, replicate}
 use Rattle.book.specs.Sizes.{Size}
 use Rattle.book.specs.Steps.{Desk, idle, looked, claimed, fetched}
-use Rattle.line.specs.Line.{Line, Block, LentDesk, Spot, lent, putAt, getAt, unused, withHead}
+use Rattle.line.specs.Line.{Line, Block, LentDesk, Spot, numbersOf, putAt, getAt, unused, withHead}
 
 -- ---- lines written out
 
@@ -21,7 +21,7 @@ block r w c f = record { round = r; written = w; claimed = c; finished = f }
 
 -- the first of the sixteen desks; the others are idle
 abbrev pub sixteen : List (Desk Spot) → List LentDesk
-sixteen ds = map lent ds ++ replicate (16 - length ds) (lent idle)
+sixteen ds = map numbersOf ds ++ replicate (16 - length ds) (numbersOf idle)
 
 -- nothing is placed
 abbrev pub fresh : Line
@@ -118,14 +118,14 @@ onDesk d f l = record {
     reading = l .head .reading;
     p = l .head .p;
     k = l .head .k;
-    desks = set (l .head .desks) d (f (getD (l .head .desks) d (lent idle)));
+    desks = set (l .head .desks) d (f (getD (l .head .desks) d (numbersOf idle)));
   };
   table = l .table;
   entries = l .entries;
 }
 
 abbrev pub withDesk : ℕ → Desk Spot → Line → Line
-withDesk d x = onDesk d (λ _. lent x)
+withDesk d x = onDesk d (λ _. numbersOf x)
 
 abbrev pub withStage : ℕ → ℕ → Line → Line
 withStage d n = onDesk d (λ x. record { stage = n; place = x .place; turn = x .turn })

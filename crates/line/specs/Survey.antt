@@ -11,7 +11,7 @@ use Rattle.line.specs.Line.{Line, sizeOf, deskStep}
 use Rattle.line.specs.Check.{Checked, sound, unfit, broken, check}
 pub use Rattle.line.specs.declared.Surveyed.{Surveyed}
 pub use Rattle.line.specs.declared.Surveyed.the-variants.{Survey as surveyed, Unfit as survey·unfit, Damaged as survey·damaged}
-pub use Rattle.line.specs.declared.Views.{Views}
+pub use Rattle.line.specs.declared.Findings.{Findings}
 
 abbrev pub isSeen : Answer → Bool
 isSeen (Put label) = false
@@ -41,16 +41,16 @@ unfoldable pub lowestFrom : ℕ → List Bool → ℕ
 lowestFrom i [] = 64
 lowestFrom i (b ∷ bs) = let later = lowestFrom (suc i) bs in if b then i else later
 
-unfoldable pub views : List Bool → Views
+unfoldable pub views : List Bool → Findings
 views bs = record { answer = surveyed; mask = maskOf bs; count = total bit bs; lowest = lowestFrom 0 bs }
 
-abbrev pub none : Surveyed → Views
+abbrev pub none : Surveyed → Findings
 none a = record { answer = a; mask = 0; count = 0; lowest = 64 }
 
-unfoldable pub surveys : Line → Checked → Views
+unfoldable pub surveys : Line → Checked → Findings
 surveys l sound = views (seenFrom l 0 (l .head .nb))
 surveys l unfit = none survey·unfit
 surveys l (broken place rule) = none survey·damaged
 
-unfoldable pub survey : Line → Views
+unfoldable pub survey : Line → Findings
 survey l = surveys l (check l)

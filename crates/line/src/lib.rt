@@ -53,7 +53,7 @@ pub enum Surveyed {
     Damaged,
 }
 
-pub struct Views {
+pub struct Findings {
     pub answer: Surveyed,
     pub mask: u64,
     pub count: u32,

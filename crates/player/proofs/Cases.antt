@@ -22,11 +22,11 @@ unfolding total any all fits isLabel isOrder currentTurn isOwned decode admitted
 shared = tt
 
 desks : Unit {0}
-unfolding L.deskOf L.recordOf L.entryOf L.labelAt L.lookStep L.winnable L.claimStep L.fetchStep L.finishStep L.taken L.deskStep
+unfolding L.deskOf L.recordOf L.entryOf L.labelAt L.lookStep L.winnable L.claimStep L.fetchStep L.finishStep L.deskDoes L.deskStep
 desks = tt
 
 owner : Unit {0}
-unfolding L.opened L.isBusy L.mayPut L.stored L.putStep L.putMany L.orderStep L.reach L.readAt L.getStep L.does
+unfolding L.opened L.isBusy L.mayPut L.withLabel L.putStep L.putMany L.orderStep L.reach L.readAt L.getStep L.does
 owner = tt
 
 check : Unit {0}

@@ -24,7 +24,7 @@ use Rattle.line.proofs.Cells.{Valid, valid, valid-of, blocks-of}
 use Rattle.line.proofs.Runs.{sound-out}
 use Rattle.line.proofs.Sound.{opened-lawful}
 use Rattle.line.specs.Demands.{SoundOut}
-use Rattle.engine.specs.declared.Went.{Went}
+use Rattle.engine.specs.declared.Outcome.{Outcome as OutcomeByValue}
 use Rattle.rules.specs.Lent.{lentTable, lineOf}
 use Rattle.engine.specs.Lent.{putBack, Given}
 use Rattle.engine.specs.declared.opening.Opened.{Opened as Opening}
@@ -50,7 +50,7 @@ module _ (z : Size) (h : Head) (t : List Block) (n : ℕ) (es : List ℕ) (w : L
   unfolding SoundOut
   step-sound = sound-out z (lineOf h t n es) s w
 
-  pub step-line : (r : Went) (fs : List ℕ) → n ≡ z .nb → Steps h t n es s r fs → says (lineOf (r .head) (r .table) n fs) (r .answer) ≡ o
+  pub step-line : (r : OutcomeByValue) (fs : List ℕ) → n ≡ z .nb → Steps h t n es s r fs → says (lineOf (r .head) (r .table) n fs) (r .answer) ≡ o
   step-line r fs e p =
       let v = valid-of z (o .line) step-sound in
       let back = lent-back t (o .line .table) n (omega arith) (blocks-of z (o .line) step-sound ∙ sym e) in

@@ -34,7 +34,7 @@ pub record Calling : Type 2 where
   pub result : Result
   -- the core: its name, and what it promises of head, table of 64, count, entries and numbers
   pub core : Name
-  pub Says : Head → List Block → ℕ → List ℕ → Numbers widths → result .Went → List ℕ → Type 0
+  pub Says : Head → List Block → ℕ → List ℕ → Numbers widths → result .Struct → List ℕ → Type 0
 
 -- one statement after the other, and then the call returns
 abbrev then : List Body → Body
@@ -64,7 +64,7 @@ module _ (c : Calling) where
 
   -- it keeps the promise: from what the core promises of the table that was loaded, with the core's table stored
   abbrev pub Keeps : {M : Type 1} (𝓤 : URA M) → Promise 𝓤 → Type 1
-  Keeps 𝓤 P = (κs : Lfts 3) (a : Args (ended .signature) κs) (r : c .result .Went) (fs : List ℕ)
+  Keeps 𝓤 P = (κs : Lfts 3) (a : Args (ended .signature) κs) (r : c .result .Struct) (fs : List ℕ)
       → c .Says (a .0 .now) (loaded (a .1 .0 .now)) (length (a .1 .0 .now)) (a .1 .1 .0 .now) (numbers 3 κs (c .widths) (a .1 .1 .1)) r fs
       → ent 𝓤 (emp 𝓤) (P κs a (c .result .answer r)
       (atExit ended κs a (c .result .head r, (stored (a .1 .0 .now) (c .result .table r), (fs, lasts 3 κs (c .widths) (a .1 .1 .1))))))

@@ -16,7 +16,7 @@ use Rattle.line.specs.declared.Checked.{Checked}
 use Rattle.line.specs.declared.Checked.the-variants.{Sound, Unfit, Broken}
 use Rattle.line.specs.declared.Opening.{Opening}
 use Rattle.line.specs.declared.Opening.the-variants.{Open, Unfit as NoLine}
-use Rattle.line.specs.declared.Views.{Views}
+use Rattle.line.specs.declared.Findings.{Findings}
 use Rattle.line.specs.Line as L
 use Rattle.line.specs.Line.{Line, unused}
 use Rattle.line.specs.Rules.{ofBlocks, inOrder}
@@ -43,7 +43,7 @@ unfolding tests rules L.deskOf L.recordOf ofBlocks inOrder C.fit C.firstBroken C
 check = tt
 
 calls : Unit {0}
-unfolding check L.entryOf L.labelAt L.isBusy L.mayPut L.stored L.putStep L.putMany L.orderStep L.reach L.readAt L.getStep L.does L.opened opens step orders
+unfolding check L.entryOf L.labelAt L.isBusy L.mayPut L.withLabel L.putStep L.putMany L.orderStep L.reach L.readAt L.getStep L.does L.opened opens step orders
 calls = tt
 
 -- ---- the numbers in which two outcomes differ
@@ -115,12 +115,12 @@ check-case = record {
 }
 
 survey-allowed : Surveys started seen
-unfolding check L.lookStep L.taken L.deskStep seenFrom maskOf lowestFrom views surveys survey
+unfolding check L.lookStep L.deskDoes L.deskStep seenFrom maskOf lowestFrom views surveys survey
 survey-allowed = refl
 
 pub survey-case : SurveyCase
 survey-case = record {
   allowed = survey-allowed;
-  not-invented = λ e. let n = ap (λ (v : Views). v .count) (surveys-unique started _ _ survey-allowed e) in omega arith;
-  not-refused = λ e. let n = ap (λ (v : Views). v .count) (surveys-unique started _ _ survey-allowed e) in omega arith;
+  not-invented = λ e. let n = ap (λ (v : Findings). v .count) (surveys-unique started _ _ survey-allowed e) in omega arith;
+  not-refused = λ e. let n = ap (λ (v : Findings). v .count) (surveys-unique started _ _ survey-allowed e) in omega arith;
 }

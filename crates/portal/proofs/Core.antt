@@ -43,11 +43,11 @@ module _ (c : Calling) {M : Type 1} (𝓤 : URA M) (H : Heap 𝓤) (A : Atoms �
     abbrev to-args : Args (core-ended c .signature) (κ, tt)
     to-args = (h, (t, (n, (y, ns))))
 
-    abbrev pub Core-says : c .result .Went → List ℕ → Type 0
+    abbrev pub Core-says : c .result .Struct → List ℕ → Type 0
     Core-says r fs = c .Says h t n (y .now) (numbers 1 (κ, tt) (c .widths) ns) r fs × (length fs ≡ length (y .now))
 
     -- what its promise says of the result and of the entries' last numbers
-    core-said : (r : c .result .Went) → ent 𝓤 (ensured 𝓤 H A (core-ended c) (core-clauses c 𝓤) (κ, tt) to-args tt r)
+    core-said : (r : c .result .Struct) → ent 𝓤 (ensured 𝓤 H A (core-ended c) (core-clauses c 𝓤) (κ, tt) to-args tt r)
         (ex 𝓤 (λ (fs : List ℕ). guard 𝓤 (Core-says r fs) (sem 𝓤 H A (finally u32 (y .name) fs))))
     core-said r =
         qed W (some (λ (ws : Lasts (core-ended c) (κ, tt) to-args). ‵ (lasts (core-ended c) (κ, tt) to-args ws)
@@ -73,12 +73,12 @@ module _ (c : Calling) {M : Type 1} (𝓤 : URA M) (H : Heap 𝓤) (A : Atoms �
       pub calls-core : K → FmC 𝓤 H (W .laws) C → Triple 𝓤 (C (c .core)) Core → (q : Share) (w : Val) → Is RH h (head-val h ∷ []) → Is RT t (w ∷ []) → n < 2 ^ 64
           → Fit 1 (κ, tt) (c .widths) ns
           → Opds K W (raw (Core .pre (to-core q w)) ∷ Γ) E xs (head-val h ∷ w ∷ vint w64 n ∷ sliceVal (y .ptr) (length (y .now)) ∷ machine 1 (κ, tt) (c .widths) ns)
-          → ((v : Val) (r : c .result .Went) → Is (RS (c .result)) r (v ∷ []) → (fs : List ℕ) → Core-says r fs
+          → ((v : Val) (r : c .result .Struct) → Is (RS (c .result)) r (v ∷ []) → (fs : List ℕ) → Core-says r fs
           → Seq K W (‵ (flft κ q) ∷ ‵ (finally u32 (y .name) fs) ∷ Γ) (lands C Λ E d v rest p))
           → Seq K W (‵ (flft κ q) ∷ ‵ (MutSlice (named 0) κ u32 .own y (slice-vals y)) ∷ Γ) (runs C Λ E (seq (call (c .core) xs d) rest) p)
       calls-core k fm known q w is-h is-t n-fits fit os next =
           use2 W (raw (Core .pre (to-core q w))) (goes-core q w is-h is-t n-fits fit) $ calls-at k fm Core known (to-core q w) os (λ v.
-          use1 W (later (some (λ (r : c .result .Went). some (λ (fs : List ℕ). given (Is (RS (c .result)) r (v ∷ []) × Core-says r fs)
+          use1 W (later (some (λ (r : c .result .Struct). some (λ (fs : List ℕ). given (Is (RS (c .result)) r (v ∷ []) × Core-says r fs)
           ((‵ (flft κ q) ⊛ ‵ ftrue) ⊛ ‵ (finally u32 (y .name) fs))))))
           (came-last 𝓤 H A W (RS (c .result)) (sep 𝓤 (A .lft κ q) (emp 𝓤)) Core-says (λ fs. sem 𝓤 H A (finally u32 (y .name) fs)) _ core-said v) $
           await k tt $ pick k (λ r. pick k (λ fs. learn k (λ e. split k $ split k $ move k (1 ∷ []) $ drop k $ next v r (e .0) fs (e .1)))))

@@ -18,7 +18,7 @@ use Rattle.book.proofs.Bound.{bounded}
 use Rattle.line.specs.declared.Checked.{Checked}
 use Rattle.line.specs.declared.Opening.{Opening}
 use Rattle.line.specs.declared.Opening.the-variants.{Open, Unfit}
-use Rattle.line.specs.declared.Views.{Views}
+use Rattle.line.specs.declared.Findings.{Findings}
 use Rattle.line.specs.Line.{Line, Outcome, says, opened}
 use Rattle.line.specs.Check.{fit, check}
 use Rattle.line.specs.Calls as L
@@ -49,7 +49,7 @@ order-is l m first last r e = e
 check-is : (l : Line) (r : Checked) → Checks l r → r ≡ check l
 check-is l r e = e
 
-survey-is : (l : Line) (v : Views) → Surveys l v → v ≡ survey l
+survey-is : (l : Line) (v : Findings) → Surveys l v → v ≡ survey l
 survey-is l v e = e
 
 -- ---- demand 1

@@ -124,12 +124,12 @@ module _ (c : Calling) {M : Type 1} (𝓤 : URA M) (P : Promise c 𝓤) (keeps :
   Exit = walkOf 𝓤 H A (ended c) (stayed c) (clauses c 𝓤 P) .post ((κs, qs, tt, a, a-vals), tt)
 
   -- the head's ghost variable and its borrow; the tokens; the table's last records, and the entries' last numbers
-  abbrev left : R .Went → List Block → List ℕ → List (Item 𝓤)
+  abbrev left : R .Struct → List Block → List ℕ → List (Item 𝓤)
   left r zs fs =
       ‵ (fobs γ₀ (RH .coded .code (R .head r))) ∷ ‵ (fbor κ₀ (Body (mem RH) b₀ o₀ γ₀)) ∷ ‵ (flft κ₀ q₀)
       ∷ ‵ (flft κ₁ q₁) ∷ ‵ (finally RB γ₁ zs) ∷ ‵ (flft κ₂ q₂) ∷ ‵ (finally u32 γ₂ fs) ∷ []
 
-  exits : (r : R .Went) → Is (RA R) (R .answer r) (answer-val R r ∷ []) → (fs : List ℕ) → c .Says h (loaded ys) (length ys) es x r fs → length fs ≡ length es
+  exits : (r : R .Struct) → Is (RA R) (R .answer r) (answer-val R r ∷ []) → (fs : List ℕ) → c .Says h (loaded ys) (length ys) es x r fs → length fs ≡ length es
       → (zs : List Block) → Stored ys (R .table r) zs → ent 𝓤 (⋆ 𝓤 H A (left r zs fs)) (Exit (answer-val R r))
   exits r is fs said fs-long zs stored =
       qed W (left r zs fs) ∵

@@ -11,8 +11,8 @@ use Rattle.book.specs.Sizes.{Size, fits, isOrder, blockOf}
 use Rattle.book.specs.Steps.{Step, DeskStep, look, claim, fetch, finish, Deed, put, get, order, desk, unlisted, decode, carried}
 use Rattle.book.specs.Verdicts.{admitted, lookable}
 use Rattle.book.proofs.Choice.{by-test, by-verdict, cases, not→false, and-first, and-second}
-use Rattle.line.specs.Line.{Line, Outcome, Spot, sizeOf, nowhere, refuse, unused, deskAt, recordOf, mayPut, stored, putStep, putMany, orderStep}
-use Rattle.line.specs.Line.{readAt, getStep, winnable, lookStep, claimStep, fetchStep, finishStep, taken, deskStep, does, opened}
+use Rattle.line.specs.Line.{Line, Outcome, Spot, sizeOf, nowhere, refuse, unused, deskAt, recordOf, mayPut, withLabel, putStep, putMany, orderStep}
+use Rattle.line.specs.Line.{readAt, getStep, winnable, lookStep, claimStep, fetchStep, finishStep, deskDoes, deskStep, does, opened}
 use Rattle.line.specs.declared.Checked.the-variants.{Unfit}
 use Rattle.line.specs.declared.Opening.the-variants.{Unfit as NoLine}
 use Rattle.line.specs.declared.Surveyed.the-variants.{Unfit as NoSurvey}
@@ -24,8 +24,8 @@ use Rattle.line.proofs.Cells.{valid}
 -- ---- every step
 
 module _ (z : Size) where
-  stored-long : (l : Line) (a : ℕ) → length ((stored z l a) .table) ≡ length (l .table)
-  unfolding stored
+  stored-long : (l : Line) (a : ℕ) → length ((withLabel z l a) .table) ≡ length (l .table)
+  unfolding withLabel
   stored-long l a =
       let p = l .head .p in
       let c = recordOf z (l .table) p in
@@ -37,7 +37,7 @@ module _ (z : Size) where
   many-long zero l a count = refl
   many-long (suc n) l a count =
       by-verdict (λ (o : Outcome). length (o .line .table) ≡ length (l .table)) (mayPut z l a)
-      (λ _. many-long n (stored z l a) (suc a) (suc count) ∙ stored-long l a) (λ _ _. refl)
+      (λ _. many-long n (withLabel z l a) (suc a) (suc count) ∙ stored-long l a) (λ _ _. refl)
 
   module _ (l : Line) where
     abbrev As-long : Outcome → Type 0
@@ -51,8 +51,8 @@ module _ (z : Size) where
     unfolding readAt
     read-long s = by-test As-long (s .place <ᵇ (recordOf z (l .table) (s .turn)) .written) (λ _. refl) (λ _. refl)
 
-    taken-long : (d : ℕ) (s : Spot) (x : DeskStep) → As-long (taken z l d s x)
-    unfolding taken lookStep claimStep fetchStep finishStep
+    taken-long : (d : ℕ) (s : Spot) (x : DeskStep) → As-long (deskDoes z l d s x)
+    unfolding deskDoes lookStep claimStep fetchStep finishStep
     taken-long d s (look i) = by-verdict As-long (lookable z (l .head .p) (l .head .k) i _) (λ _. refl) (λ _ _. refl)
     taken-long d s claim = by-test As-long (winnable z l s) (λ _. length-set (l .table) _ _) (λ _. refl)
     taken-long d s fetch = refl

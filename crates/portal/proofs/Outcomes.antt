@@ -19,7 +19,7 @@ use Rattle.line.specs.declared.Checked.{Checked}
 use Rattle.line.specs.declared.Checked.the-variants.{Unfit as Misfit}
 use Rattle.line.specs.declared.Opening.the-variants.{Unfit as NoLine}
 use Rattle.line.specs.declared.Surveyed.the-variants.{Unfit as NoSurvey}
-use Rattle.line.specs.declared.Views.{Views}
+use Rattle.line.specs.declared.Findings.{Findings}
 use Rattle.line.specs.Line.{Line, Outcome, refuse, unused}
 use Rattle.line.specs.Check.{check}
 use Rattle.line.specs.Calls as L
@@ -27,11 +27,11 @@ use Rattle.line.specs.Calls.{opens, step, orders}
 use Rattle.line.specs.Survey.{none, survey}
 use Rattle.table.specs.Laid.{laid, loaded, stored}
 use Rattle.table.proofs.Laws.{stored-loaded, stored-take}
-use Rattle.engine.specs.declared.Went.{Went}
+use Rattle.engine.specs.declared.Outcome.{Outcome as OutcomeByValue}
 use Rattle.engine.specs.declared.opening.Opened.{Opened}
 use Rattle.rules.specs.Lent.{lentTable, lineOf}
 use Rattle.rules.specs.Promises as C
-use Rattle.engine.specs.Lent.{putBack, Given, given, gave}
+use Rattle.engine.specs.Lent.{putBack, Given, givenBack, backOf}
 use Rattle.engine.specs.Promises as E
 use Rattle.engine.specs.Opens as E′
 use Rattle.rules.proofs.Lent.{lent-length}
@@ -106,18 +106,18 @@ module _ (h : Head) (ys : List Block) (es : List ℕ) where
 module _ (h : Head) (ys : List Block) (es : List ℕ) where
   -- a step and an order alike
   went : (call : Line → Outcome) → ((l : Line) → length ((call l) .line .table) ≡ length (l .table)) → ((l : Line) → 64 < length (l .table) → call l ≡ refuse l Unfit)
-      → (r : Went) (fs : List ℕ) → given r fs ≡ gave (loaded ys) (length ys) (call (inner h ys es))
+      → (r : OutcomeByValue) (fs : List ℕ) → givenBack r fs ≡ backOf (loaded ys) (length ys) (call (inner h ys es))
       → record { line = lent (r .head) (stored ys (r .table)) fs; answer = r .answer } ≡ call (lent h ys es)
   went call long many r fs e =
       let o = outcome h ys es (λ l. (call l) .answer) (Refused Unfit 0) (λ l m. ap (λ (o : Outcome). o .answer) (many l m))
-      (λ l. (call l) .line) long (λ l m. ap (λ (o : Outcome). o .line) (many l m)) (given r fs) e in
+      (λ l. (call l) .line) long (λ l m. ap (λ (o : Outcome). o .line) (many l m)) (givenBack r fs) e in
       λ j. record { line = o .0 j; answer = o .1 j }
 
-  pub stepped : (fs : List ℕ) (s : Step) (r : Went) → E.Steps h (loaded ys) (length ys) es s r fs
+  pub stepped : (fs : List ℕ) (s : Step) (r : OutcomeByValue) → E.Steps h (loaded ys) (length ys) es s r fs
       → Steps (lent h ys es) s (r .answer) (lent (r .head) (stored ys (r .table)) fs)
   stepped fs s r = went (λ l. step l s) (λ l. step-long l s) (λ l m. step-many l m s) r fs
 
-  pub ordered : (fs : List ℕ) (first last : ℕ) (r : Went) → E.Orders h (loaded ys) (length ys) es first last r fs
+  pub ordered : (fs : List ℕ) (first last : ℕ) (r : OutcomeByValue) → E.Orders h (loaded ys) (length ys) es first last r fs
       → Orders (lent h ys es) first last (r .answer) (lent (r .head) (stored ys (r .table)) fs)
   ordered fs first last r = went (λ l. orders l first last) (λ l. orders-long l first last) (λ l m. orders-many l m first last) r fs
 
@@ -131,5 +131,5 @@ module _ (h : Head) (ys : List Block) (es : List ℕ) where
   pub checked : (r : Checked) → C.Checks h (loaded ys) (length ys) (length es) r → Checks (lent h ys es) r
   checked r e = lent-checked h (loaded ys) (length ys) es r e ∙ same-answer h ys es check Misfit check-many
 
-  pub surveyed : (r : Views) → E.Surveys h (loaded ys) (length ys) (length es) r → Surveys (lent h ys es) r
+  pub surveyed : (r : Findings) → E.Surveys h (loaded ys) (length ys) (length es) r → Surveys (lent h ys es) r
   surveyed r e = lent-surveyed h (loaded ys) (length ys) es r e ∙ same-answer h ys es survey (none NoSurvey) survey-many

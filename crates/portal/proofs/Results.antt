@@ -1,4 +1,4 @@
--- What a core gives back: a struct of the answer, the head and the table afterwards. `Went` and `Opened` differ in the
+-- What a core gives back: a struct of the answer, the head and the table afterwards. `Outcome` and `Opened` differ in the
 -- answer's type only, an enum, so what a walk has to know of either is said here of any such struct.
 use mathlib.Core.Path.{_≡_}
 use mathlib.Core.List.{List, [], _∷_, map}
@@ -22,13 +22,13 @@ use Rattle.line.proofs.Head as T
 use Rattle.line.proofs.Head.Laws as T′
 use Rattle.line.proofs.Block as B
 use Rattle.line.proofs.Block.Laws as B′
-use Rattle.engine.specs.declared.Went.{Went}
+use Rattle.engine.specs.declared.Outcome.{Outcome as OutcomeByValue}
 use Rattle.engine.specs.declared.opening.Opened.{Opened}
 use Rattle.words.proofs.Answer as N
 use Rattle.words.proofs.Answer.Laws as N′
 use Rattle.line.proofs.Opening as G
 use Rattle.line.proofs.Opening.Laws as G′
-use Rattle.engine.proofs.Went as S
+use Rattle.engine.proofs.Outcome as S
 use Rattle.engine.proofs.opening.Opened as O
 use Rattle.walk.proofs.Fields.{array-of}
 use Rattle.portal.proofs.Rows.{RH, RT, head-val}
@@ -46,12 +46,12 @@ pub record Result : Type 2 where
   pub laws : LL.FLaws (ED.field Answer)
   pub plain : Plainss (ED.variants Answer)
   -- the struct: its type, its name in MIR, and its three parts, which make it
-  pub Went : Type 0
+  pub Struct : Type 0
   pub name : Sym
-  pub answer : Went → Answer .D
-  pub head : Went → Head
-  pub table : Went → List Block
-  pub one : (r s : Went) → tuple Answer (answer r) (head r) (table r) ≡ tuple Answer (answer s) (head s) (table s) → r ≡ s
+  pub answer : Struct → Answer .D
+  pub head : Struct → Head
+  pub table : Struct → List Block
+  pub one : (r s : Struct) → tuple Answer (answer r) (head r) (table r) ≡ tuple Answer (answer s) (head s) (table s) → r ≡ s
 
 module _ (R : Result) where
   abbrev struct : SD.Declared
@@ -59,7 +59,7 @@ module _ (R : Result) where
     name = R .name;
     args = [];
     parts = parts (R .Answer);
-    D = R .Went;
+    D = R .Struct;
     to = λ r. tuple (R .Answer) (R .answer r) (R .head r) (R .table r);
     to-one = R .one;
   }
@@ -75,16 +75,16 @@ module _ (R : Result) where
   RA = ED.row (R .Answer)
 
   -- the machine values: of the struct, of its answer and of its table
-  abbrev pub val : R .Went → Val
+  abbrev pub val : R .Struct → Val
   val r = LL.val struct struct-laws r
 
-  abbrev pub answer-val : R .Went → Val
+  abbrev pub answer-val : R .Struct → Val
   answer-val r = R .laws .val (R .Answer .to (R .answer r))
 
-  abbrev pub table-val : R .Went → Val
+  abbrev pub table-val : R .Struct → Val
   table-val r = LL.array-laws B.the-field B′.the-field-laws 64 .val (map (B.the-type .to) (R .table r))
 
-  module _ (r : R .Went) (w : Val) (is : Is RS r (w ∷ [])) where
+  module _ (r : R .Struct) (w : Val) (is : Is RS r (w ∷ [])) where
     pub val-is : w ∷ [] ≡ val r ∷ []
     val-is = LL.tells struct struct-laws r (w ∷ []) is
 
@@ -113,7 +113,7 @@ went = record {
   Answer = N.the-type;
   laws = N′.the-field-laws;
   plain = N′.the-plain;
-  Went = Went;
+  Struct = OutcomeByValue;
   name = S.the-type .name;
   answer = λ r. r .answer;
   head = λ r. r .head;
@@ -126,7 +126,7 @@ opened = record {
   Answer = G.the-type;
   laws = G′.the-field-laws;
   plain = G′.the-plain;
-  Went = Opened;
+  Struct = Opened;
   name = O.the-type .name;
   answer = λ r. r .answer;
   head = λ r. r .head;

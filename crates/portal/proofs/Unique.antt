@@ -6,7 +6,7 @@ use Rattle.book.specs.Sizes.{Size}
 use Rattle.book.specs.Steps.{Step}
 use Rattle.line.specs.declared.Checked.{Checked}
 use Rattle.line.specs.declared.Opening.{Opening}
-use Rattle.line.specs.declared.Views.{Views}
+use Rattle.line.specs.declared.Findings.{Findings}
 use Rattle.line.specs.Line.{Line, Outcome, says}
 use Rattle.line.specs.Calls.{Opened}
 use Rattle.portal.specs.Promises.{Opens, Steps, Orders, Checks, Surveys}
@@ -27,5 +27,5 @@ module _ (lent : Line) where
   pub checks-unique : (r s : Checked) → Checks lent r → Checks lent s → r ≡ s
   checks-unique r s p q = p ∙ sym q
 
-  pub surveys-unique : (r s : Views) → Surveys lent r → Surveys lent s → r ≡ s
+  pub surveys-unique : (r s : Findings) → Surveys lent r → Surveys lent s → r ≡ s
   surveys-unique r s p q = p ∙ sym q

@@ -11,8 +11,8 @@ use Rattle.line.specs.declared.Block.{Block}
 use Rattle.line.specs.declared.Checked.{Checked}
 use Rattle.line.specs.declared.Checked.the-variants.{Sound, Unfit, Broken}
 use Rattle.line.specs.declared.Head.{Head}
-use Rattle.line.specs.declared.Views.{Views}
-use Rattle.line.specs.Line.{Line, Outcome, Spot, sizeOf, refuse, lookStep, taken, deskStep}
+use Rattle.line.specs.declared.Findings.{Findings}
+use Rattle.line.specs.Line.{Line, Outcome, Spot, sizeOf, refuse, lookStep, deskDoes, deskStep}
 use Rattle.line.specs.Check.{check}
 use Rattle.line.specs.Survey.{isSeen, seenFrom, views, surveys, survey}
 use Rattle.rules.specs.Lent.{lineOf}
@@ -32,7 +32,7 @@ module _ (h : Head) (t : List Block) (n : ℕ) (es es′ : List ℕ) where
   l′ = lineOf h t n es′
 
   look-unread : (i : ℕ) → (deskStep (sizeOf h) l 0 (look i) idle) .answer ≡ (deskStep (sizeOf h) l′ 0 (look i) idle) .answer
-  unfolding deskStep taken lookStep
+  unfolding deskStep deskDoes lookStep
   look-unread i = same-verdict (admitted (sizeOf h) {A = Spot} 0 (look i) idle) l l′ _ _ (same-verdict (lookable (sizeOf h) (h .p) (h .k) i _) l l′ _ _ refl)
 
   seen-unread : (i m : ℕ) → seenFrom l i m ≡ seenFrom l′ i m
@@ -47,7 +47,7 @@ module _ (h : Head) (t : List Block) (n : ℕ) (es es′ : List ℕ) where
   surveys-unread (Broken place rule) = refl
 
 -- what the survey promises of any m entries holds of the m that were lent
-pub lent-surveyed : (h : Head) (t : List Block) (n : ℕ) (es : List ℕ) (r : Views) → Surveys h t n (length es) r → r ≡ survey (lineOf h t n es)
+pub lent-surveyed : (h : Head) (t : List Block) (n : ℕ) (es : List ℕ) (r : Findings) → Surveys h t n (length es) r → r ≡ survey (lineOf h t n es)
 unfolding survey
 lent-surveyed h t n es r p =
     let fs : List ℕ = replicate (length es) 0 in

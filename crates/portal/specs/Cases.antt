@@ -10,7 +10,7 @@ use Rattle.book.specs.Steps.{Step}
 use Rattle.line.specs.declared.Checked.the-variants.{Sound, Broken}
 use Rattle.line.specs.declared.Opening.the-variants.{Open, Unfit}
 use Rattle.line.specs.declared.Surveyed.the-variants.{Survey as surveyed, Unfit as survey·unfit}
-use Rattle.line.specs.declared.Views.{Views}
+use Rattle.line.specs.declared.Findings.{Findings}
 use Rattle.line.specs.Line.{Line, putAt, unused}
 use Rattle.line.specs.Survey.{none}
 use Rattle.line.specs.Samples.{size, block, sixteen, fresh, started}
@@ -66,7 +66,7 @@ pub record CheckCase : Type 0 where
 
 -- ---- the survey of that line: only block 1 can be taken from
 
-abbrev pub seen : Views
+abbrev pub seen : Findings
 seen = record { answer = surveyed; mask = 2; count = 1; lowest = 1 }
 
 pub record SurveyCase : Type 0 where

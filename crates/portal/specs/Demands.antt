@@ -10,13 +10,13 @@ use Rattle.words.specs.declared.Answer.the-variants.{Seen}
 use Rattle.book.specs.Sizes.{Size}
 use Rattle.book.specs.Steps.{Step, look, desk, idle, decode}
 use Rattle.book.specs.Book as B
-use Rattle.book.specs.Counts.{placed, got, taken, won, lost, unfetched, waiting, handed, times, bound}
+use Rattle.book.specs.Counts.{placed, got, took, won, lost, unfetched, waiting, handed, times, bound}
 use Rattle.line.specs.declared.Checked.{Checked}
 use Rattle.line.specs.declared.Checked.the-variants.{Sound as sound, Unfit as unfit, Broken as broken}
 use Rattle.line.specs.declared.Opening.{Opening}
 use Rattle.line.specs.declared.Opening.the-variants.{Open, Unfit}
 use Rattle.line.specs.declared.Surveyed.the-variants.{Survey as surveyed, Unfit as survey·unfit, Damaged as survey·damaged}
-use Rattle.line.specs.declared.Views.{Views}
+use Rattle.line.specs.declared.Findings.{Findings}
 use Rattle.line.specs.Line.{Line, says, sizeOf, deskAt, deskStep, opened}
 use Rattle.line.specs.Rules.{Sound}
 use Rattle.line.specs.Check.{fit}
@@ -90,7 +90,7 @@ unfoldable pub Counted : Type 0
 Counted =
     (z : Size) (cs : List Call) (rs : List Answer) (m : Line) → Run z cs rs m
     → let book = B.after z (B.opened z) (map asStep cs) in
-    placed rs ≡ got rs + taken rs + unfetched book + waiting book
+    placed rs ≡ got rs + took rs + unfetched book + waiting book
 
 unfoldable pub Handed : Type 0
 Handed =
@@ -105,7 +105,7 @@ AlwaysSound = (z : Size) (cs : List Call) (rs : List Answer) (m : Line) → Run 
 
 -- ---- demand 2: the survey names just the blocks that a look would serve
 
-pub record Names (l : Line) (v : Views) : Type 0 where
+pub record Names (l : Line) (v : Findings) : Type 0 where
   -- bit b is set exactly if an idle desk's look at block b would be SEEN, and so if the look of a desk that is idle is
   pub bits : (d b : ℕ) → d < l .head .t → (bitAt (v .mask) b ≡ 1) ↔ ((place : ℕ) × ((deskStep (sizeOf (l .head)) l d (look b) idle) .answer ≡ Seen place))
   pub looks : (d b : ℕ) (s : Step) (r : Answer) (m : Line) → deskAt (l .head) d ≡ idle → d < l .head .t → decode s ≡ desk d (look b) → Steps l s r m
@@ -113,14 +113,14 @@ pub record Names (l : Line) (v : Views) : Type 0 where
   pub count : v .count ≡ ones 64 (v .mask)
   pub lowest : LeastBit (v .mask) (v .lowest)
 
-pub record Surveyed (l : Line) (v : Views) : Type 0 where
+pub record Surveyed (l : Line) (v : Findings) : Type 0 where
   pub unfit : (Fit l → ⊥) → v ≡ none survey·unfit
   pub damaged : Fit l → (Sound l → ⊥) → v ≡ none survey·damaged
   pub answer : Fit l → Sound l → v .answer ≡ surveyed
   pub names : Fit l → Sound l → Names l v
 
 unfoldable pub SurveyTold : Type 0
-SurveyTold = (l : Line) (v : Views) → Surveys l v → Surveyed l v
+SurveyTold = (l : Line) (v : Findings) → Surveys l v → Surveyed l v
 
 -- ---- demand 3
 

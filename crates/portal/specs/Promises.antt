@@ -10,7 +10,7 @@ use Rattle.line.specs.declared.Block.{Block}
 use Rattle.line.specs.declared.Head.{Head}
 use Rattle.line.specs.declared.Opening.{Opening}
 use Rattle.line.specs.declared.Checked.{Checked}
-use Rattle.line.specs.declared.Views.{Views}
+use Rattle.line.specs.declared.Findings.{Findings}
 use Rattle.line.specs.Line.{Line}
 use Rattle.line.specs.Check.{check}
 use Rattle.line.specs.Calls.{opens, step, orders}
@@ -32,5 +32,5 @@ Orders l first last r after = record { line = after; answer = r } ≡ orders l f
 abbrev pub Checks : Line → Checked → Type 0
 Checks l r = r ≡ check l
 
-abbrev pub Surveys : Line → Views → Type 0
+abbrev pub Surveys : Line → Findings → Type 0
 Surveys l r = r ≡ survey l

@@ -21,9 +21,9 @@
 ghost use Rattle.portal.specs.Promises.{lent, Opens, Steps, Orders, Checks, Surveys};
 use line::Block;
 use line::Checked;
+use line::Findings;
 use line::Head;
 use line::Opening;
-use line::Views;
 use words::Answer;
 
 // Opens a line of nb blocks, ne entries a block and t desks in what is lent.
@@ -100,7 +100,7 @@ pub fn check(head: &Head, table: &[Block], entries: &[u32]) -> Checked
 }
 
 // Where could an idle desk take from? Nothing is changed.
-pub fn survey(head: &Head, table: &[Block], entries: &[u32]) -> Views
+pub fn survey(head: &Head, table: &[Block], entries: &[u32]) -> Findings
     ensures { λ r. ⌜ Surveys (lent (now (head .entry)) (now (table .entry)) (now (entries .entry))) r ⌝ }
 {
     let n = table.len();

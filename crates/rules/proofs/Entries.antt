@@ -12,7 +12,7 @@ use Rattle.line.specs.declared.Checked.{Checked}
 use Rattle.line.specs.declared.Checked.the-variants.{Unfit, Broken}
 use Rattle.line.specs.declared.Head.{Head}
 use Rattle.line.specs.Line.{sizeOf}
-use Rattle.line.specs.Rules.{Rule, rule1, rule2, rule3, rule4, rule5, rule6, rule7, numberOf, Asked, inOrder}
+use Rattle.line.specs.Rules.{Rule, rule1, rule2, rule3, rule4, rule5, rule6, rule7, ruleNumber, RuleAt, inOrder}
 use Rattle.line.specs.Check.{fit, isCurrent, deskHolds, isZeros, holds1, holds2, holds3, holds4, holds5, holds6, holds7, holds, firstBroken, check}
 use Rattle.rules.specs.Lent.{lentTable, lineOf}
 use Rattle.rules.specs.Promises.{Checks}
@@ -28,11 +28,11 @@ module _ (h : Head) (t : List Block) (n : ℕ) (es es′ : List ℕ) where
   holds-entries i rule6 = refl
   holds-entries i rule7 = refl
 
-  pub first-entries : (asked : List Asked) → firstBroken (lineOf h t n es) asked ≡ firstBroken (lineOf h t n es′) asked
+  pub first-entries : (asked : List RuleAt) → firstBroken (lineOf h t n es) asked ≡ firstBroken (lineOf h t n es′) asked
   unfolding firstBroken
   first-entries [] = refl
   first-entries (a ∷ rest) =
-      ap₂ (λ (b : Bool) (c : Checked). if b then c else Broken (a .place) (numberOf (a .rule))) (holds-entries (a .place) (a .rule)) (first-entries rest)
+      ap₂ (λ (b : Bool) (c : Checked). if b then c else Broken (a .place) (ruleNumber (a .rule))) (holds-entries (a .place) (a .rule)) (first-entries rest)
 
   check-entries : length es ≡ length es′ → check (lineOf h t n es) ≡ check (lineOf h t n es′)
   unfolding check fit

@@ -11,7 +11,7 @@ use Rattle.line.specs.declared.Checked.{Checked}
 use Rattle.line.specs.declared.Checked.the-variants.{Sound, Unfit, Broken}
 use Rattle.line.specs.declared.Head.{Head}
 use Rattle.line.specs.Line.{Line, sizeOf}
-use Rattle.line.specs.Rules.{Rule, rule1, rule2, rule3, rule4, rule5, rule6, rule7, numberOf, Asked, ask, ofBlocks, inOrder}
+use Rattle.line.specs.Rules.{Rule, rule1, rule2, rule3, rule4, rule5, rule6, rule7, ruleNumber, RuleAt, ask, ofBlocks, inOrder}
 use Rattle.line.specs.Check.{fit, holds1, holds2, holds3, holds4, holds5, holds6, holds7, holds, firstBroken, check}
 use Rattle.rules.specs.Lent.{lentTable, lineOf}
 use Rattle.rules.specs.Checking.{Ring, fitting}
@@ -53,11 +53,11 @@ module _ (h : Head) (tb : List Block) (n m : ℕ) where
 -- ---- the rules of the head, then those of a block
 
 module _ (l : Line) where
-  past : (i : ℕ) (r : Rule) (later : List Asked) → holds l i r ≡ true → firstBroken l (ask i r ∷ later) ≡ firstBroken l later
+  past : (i : ℕ) (r : Rule) (later : List RuleAt) → holds l i r ≡ true → firstBroken l (ask i r ∷ later) ≡ firstBroken l later
   unfolding firstBroken
   past i r later e = rw e
 
-  stop : (i : ℕ) (r : Rule) (later : List Asked) → holds l i r ≡ false → firstBroken l (ask i r ∷ later) ≡ Broken i (numberOf r)
+  stop : (i : ℕ) (r : Rule) (later : List RuleAt) → holds l i r ≡ false → firstBroken l (ask i r ∷ later) ≡ Broken i (ruleNumber r)
   unfolding firstBroken
   stop i r later e = rw e
 

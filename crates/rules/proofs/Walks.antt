@@ -14,7 +14,7 @@ use Rattle.book.specs.Steps.{Desk, idle, looked, claimed, fetched}
 use Rattle.book.proofs.Choice.{cases, T→true, not→false, and-second, and-false}
 use Rattle.book.proofs.Total.{total-le}
 use Rattle.line.specs.declared.Desk.{Desk as LentDesk}
-use Rattle.line.specs.Line.{Spot, lent, deskOf}
+use Rattle.line.specs.Line.{Spot, numbersOf, deskOf}
 use Rattle.line.specs.Rules.{heldIn}
 use Rattle.line.specs.Check.{holdsAt, clashes, noClash}
 use Rattle.line.proofs.Survey.{bit-le}
@@ -26,7 +26,7 @@ pub length-of : (X Y : Type 0) (f : X → Y) (l : List X) (n : ℕ) → length (
 length-of X Y f l n e = sym (length-map l f) ∙ e
 
 abbrev pub at : List LentDesk → ℕ → LentDesk
-at ds d = getD ds d (lent idle)
+at ds d = getD ds d (numbersOf idle)
 
 -- ---- counting those that hold in a turn
 
@@ -89,7 +89,7 @@ module _ (ds : List LentDesk) where
   -- desk j beside one that holds x
   module _ (x : Desk Spot) (j : ℕ) (h : j < length ds) where
     step : clashes x (drop j ds) ≡ (clashes x (at ds j ∷ []) || clashes x (drop (j + 1) ds))
-    step = rw (add-one, drop-cons ds j (lent idle)) (first-of x (at ds j) (drop (suc j) ds))
+    step = rw (add-one, drop-cons ds j (numbersOf idle)) (first-of x (at ds j) (drop (suc j) ds))
 
     pub pair-past : clashes x (at ds j ∷ []) ≡ false → clashes x (drop j ds) ≡ clashes x (drop (j + 1) ds)
     pair-past e = step ∙ ap (λ (b : Bool). b || clashes x (drop (j + 1) ds)) e
@@ -108,7 +108,7 @@ module _ (ds : List LentDesk) where
   module _ (i : ℕ) (h : i < length ds) where
     later : noClash (drop i ds) ≡ (not (clashes (deskOf (at ds i)) (drop (i + 1) ds)) && noClash (drop (i + 1) ds))
     unfolding noClash
-    later = rw (add-one, drop-cons ds i (lent idle))
+    later = rw (add-one, drop-cons ds i (numbersOf idle))
 
     pub desk-past : clashes (deskOf (at ds i)) (drop (i + 1) ds) ≡ false → noClash (drop i ds) ≡ noClash (drop (i + 1) ds)
     desk-past e = later ∙ ap (λ (b : Bool). not b && noClash (drop (i + 1) ds)) e
@@ -142,18 +142,18 @@ module _ (f g : LentDesk → Bool) where
     pub rest-past : d < length ds → f (at ds d) ≡ true → (t ≤ d → g (at ds d) ≡ true) → rest (t - d) (drop d ds) ≡ rest (t - (d + 1)) (drop (d + 1) ds)
     rest-past h e k =
         let n : t - d - 1 ≡ t - (d + 1) = omega arith in
-        ap (rest (t - d)) (drop-cons ds d (lent idle) h)
+        ap (rest (t - d)) (drop-cons ds d (numbersOf idle) h)
         ∙ past-of (t - d) (at ds d) (drop (suc d) ds) e (λ z. k (omega arith))
         ∙ ap₂ (λ (n m : ℕ). rest n (drop m ds)) n (sym (add-one d))
 
     pub rest-broken : d < length ds → f (at ds d) ≡ false → rest (t - d) (drop d ds) ≡ false
     unfolding all
-    rest-broken h e = ap (rest (t - d)) (drop-cons ds d (lent idle) h) ∙ rw e
+    rest-broken h e = ap (rest (t - d)) (drop-cons ds d (numbersOf idle) h) ∙ rw e
 
     pub rest-stray : d < length ds → t ≤ d → (f (at ds d) && g (at ds d)) ≡ false → rest (t - d) (drop d ds) ≡ false
     rest-stray h k e =
         let z : t - d ≡ 0 = omega arith in
-        ap₂ rest z (drop-cons ds d (lent idle) h) ∙ stray-of (at ds d) (drop (suc d) ds) e
+        ap₂ rest z (drop-cons ds d (numbersOf idle) h) ∙ stray-of (at ds d) (drop (suc d) ds) e
 
     pub rest-end : length ds ≤ d → rest (t - d) (drop d ds) ≡ true
     unfolding all

@@ -13,9 +13,9 @@ use contract.Running.{givenOf, tables, tablesOf}
 use denote.Struct.Laws as LL
 use denote.Triple.Spec.{tripleOf}
 use denote.Triple.Table.{entered, cited}
-use Rattle.line.specs.declared.Views.{Views}
-use Rattle.line.proofs.Views as R
-use Rattle.line.proofs.Views.Laws as R′
+use Rattle.line.specs.declared.Findings.{Findings}
+use Rattle.line.proofs.Findings as R
+use Rattle.line.proofs.Findings.Laws as R′
 use Rattle.table.specs.Laid.{loaded}
 use Rattle.table.proofs.load.Symbol as load
 use Rattle.table.proofs.load.Met as load-thm
@@ -32,10 +32,10 @@ use Rattle.portal.proofs.survey.Statement as stated
 
 module _ {M : Type 1} (𝓤 : URA M) (H : Heap 𝓤) (A : Atoms 𝓤) (at-mem : Memory → SProp 𝓤) (run : Routine → Fun 𝓤) where
   -- what the call says of its answer, and that it does
-  abbrev said : Lent → Views → SProp 𝓤
+  abbrev said : Lent → Findings → SProp 𝓤
   said a r = f.clauses 𝓤 H A at-mem run ([], ([], ([], tt))) a .ensures tt r a
 
-  told : (a : Lent) (r : Views) → Surveys-core (a .0 .now) (loaded (a .1 .0 .now)) (length (a .1 .0 .now)) (length (a .1 .1 .0 .now)) r → ent 𝓤 (emp 𝓤) (said a r)
+  told : (a : Lent) (r : Findings) → Surveys-core (a .0 .now) (loaded (a .1 .0 .now)) (length (a .1 .0 .now)) (length (a .1 .1 .0 .now)) r → ent 𝓤 (emp 𝓤) (said a r)
   told a r e = factI 𝓤 _ (emp 𝓤) (surveyed (a .0 .now) (a .1 .0 .now) (a .1 .1 .0 .now) r e)
 
 pub survey-spec : {M : Type 1} → stated.statement M

@@ -9,7 +9,7 @@ use Rattle.book.specs.Steps.{DeskStep, idle}
 use Rattle.book.specs.Verdicts.{takes}
 use Rattle.line.specs.declared.Block.{Block}
 use Rattle.line.specs.declared.Head.{Head}
-use Rattle.line.specs.Line.{lent}
+use Rattle.line.specs.Line.{numbersOf}
 use Rattle.engine.specs.Owning.{verdictOf}
 use Rattle.engine.specs.Stepping.{stepOf, mayStep}
 use Rattle.engine.proofs.Ready.{blocks}
@@ -55,7 +55,7 @@ module _ (c : tie.After-block-read) where
   abbrev i : ℕ
   i = c .block-read .result
 
-  may : takes ≡ mayStep (h start .nb) ((getD (h start .desks) (d start) (lent idle)) .stage) (s start)
+  may : takes ≡ mayStep (h start .nb) ((getD (h start .desks) (d start) (numbersOf idle)) .stage) (s start)
   may = ap verdictOf (sym (c .before .enum-told .given .1)) ∙ asked .may-step .ensures
 
   below : i < h start .nb

@@ -3,7 +3,7 @@ use mathlib.Core.Path.{_≡_, ap}
 use borrow.Author.Needs.{needs}
 use Rattle.book.specs.Verdicts.{takes}
 use Rattle.rules.proofs.Walks.{length-of}
-use Rattle.engine.specs.Lent.{given}
+use Rattle.engine.specs.Lent.{givenBack}
 use Rattle.engine.specs.Owning.{verdictOf}
 use Rattle.engine.proofs.Called.{Goes, goes, stops}
 use Rattle.engine.proofs.step.order.Statement.{statement}
@@ -25,6 +25,6 @@ order-spec =
     (λ c κs. let t = c .before in passed (t .before .before) (ap verdictOf (t .enum-told .given .1)) .ready)
     (λ c. search) (λ c. search needs)
     (λ c. let o = c .before .before in let b = o .before .before in let p = b .before .before in let a = start p .args in
-    passed p (ap verdictOf (b .enum-told .given .1)) .order-is (a .a) (a .b) (given (o .order .result) (o .order .last .1 .1 .0)) (o .order .ensures))
+    passed p (ap verdictOf (b .enum-told .given .1)) .order-is (a .a) (a .b) (givenBack (o .order .result) (o .order .last .1 .1 .0)) (o .order .ensures))
     (λ c. let w = c .before in let p = w .before .before in let a = start p .args in
     stops _ _ _ _ _ (p .before .check .ensures) _ (p .may-pass .ensures) _ (ap verdictOf (w .w .given .1)) .order-is (a .a) (a .b)))

@@ -14,7 +14,7 @@ use Rattle.line.specs.Line.{sizeOf, does}
 use Rattle.line.specs.Calls.{step}
 use Rattle.rules.specs.Lent.{lineOf}
 use Rattle.rules.proofs.Walks.{length-of}
-use Rattle.engine.specs.Lent.{Given, given, gave}
+use Rattle.engine.specs.Lent.{Given, givenBack, backOf}
 use Rattle.engine.specs.Owning.{verdictOf}
 use Rattle.engine.specs.Stepping.{deedOf}
 use Rattle.engine.specs.declared.step.Deed.{Deed as Asked}
@@ -57,7 +57,7 @@ module _ (c : tie.After-deed-of) where
   sound : Goes (h m) (t m) (n m) (es m)
   sound = passed m (ap verdictOf (c .before .enum-told .given .1))
 
-  does-it : (d : Asked) (o : Given Answer) → c .deed-of .result ≡ d → o ≡ gave (t m) (h m .nb) (does (sizeOf (h m)) (lineOf (h m) (t m) (h m .nb) (es m)) (deedOf d)) → o ≡ gave (t m) (n m) (step (lineOf (h m) (t m) (n m) (es m)) (s m))
+  does-it : (d : Asked) (o : Given Answer) → c .deed-of .result ≡ d → o ≡ backOf (t m) (h m .nb) (does (sizeOf (h m)) (lineOf (h m) (t m) (h m .nb) (es m)) (deedOf d)) → o ≡ backOf (t m) (n m) (step (lineOf (h m) (t m) (n m) (es m)) (s m))
   does-it d o e = sound .step-is (s m) (deedOf d) o (ap deedOf (sym e) ∙ c .deed-of .ensures)
 
 pub step-spec : {M : Type 1} → statement M
@@ -71,12 +71,12 @@ step-spec =
     (λ c. search) (λ c κs. sound (c .before .before .before .before) .ready)
     (λ c. search) (λ c. search)
     (λ c. search needs)
-    (λ c. let o = c .before .before in let d = o .before .before .before in does-it (d .before .before) _ (given (o .put .result) (o .put .last .1 .1 .0)) (d .label .given .1) (o .put .ensures))
+    (λ c. let o = c .before .before in let d = o .before .before .before in does-it (d .before .before) _ (givenBack (o .put .result) (o .put .last .1 .1 .0)) (d .label .given .1) (o .put .ensures))
     (λ c. search needs)
-    (λ c. let d = c .before .before in does-it (d .before .before) _ (given (c .get .result) (es (m (d .before .before)))) (d .enum-told2 .given .1) (c .get .ensures))
+    (λ c. let d = c .before .before in does-it (d .before .before) _ (givenBack (c .get .result) (es (m (d .before .before)))) (d .enum-told2 .given .1) (c .get .ensures))
     (λ c. search needs)
-    (λ c. let o = c .before .before in let d = o .before .before .before in does-it (d .before .before) _ (given (o .order .result) (o .order .last .1 .1 .0)) (d .first .given .1) (o .order .ensures))
+    (λ c. let o = c .before .before in let d = o .before .before .before in does-it (d .before .before) _ (givenBack (o .order .result) (o .order .last .1 .1 .0)) (d .first .given .1) (o .order .ensures))
     (λ c. search needs)
-    (λ c. let d = c .before .before .before in does-it (d .before .before) _ (given (c .desk-step .result) (es (m (d .before .before)))) (d .d .given .1) (c .desk-step .ensures))
+    (λ c. let d = c .before .before .before in does-it (d .before .before) _ (givenBack (c .desk-step .result) (es (m (d .before .before)))) (d .d .given .1) (c .desk-step .ensures))
     (λ c. let d = c .before .before in does-it d _ _ (c .enum-told3 .given .1) (refused (h (m d)) (t (m d)) (h (m d) .nb) (es (m d)) Badstep))
     (λ c. let w = c .before in let p = w .before .before in stopped p (w .w .given .0 .0) (ap verdictOf (w .w .given .1)) .step-is (s p)))

@@ -1,8 +1,0 @@
--- The number and the value are what `words` promises of them.
-use borrow.Author.Needs.{needs}
-use Rattle.cabi.proofs.Parts.{answered}
-use Rattle.cabi.proofs.replies.of_answer.Statement.{statement}
-use Rattle.cabi.proofs.replies.of_answer.Tie as tie
-
-pub of-answer-spec : {M : Type 1} → statement M
-of-answer-spec = tie.close (tie.spec (λ c κs. search needs) (λ c κs. search needs) (λ c. search answered))

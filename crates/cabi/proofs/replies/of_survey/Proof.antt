@@ -1,8 +1,0 @@
--- The number is what `survey_number` promises; the rest is read off.
-use borrow.Author.Needs.{needs}
-use Rattle.cabi.proofs.Parts.{surveyed}
-use Rattle.cabi.proofs.replies.of_survey.Statement.{statement}
-use Rattle.cabi.proofs.replies.of_survey.Tie as tie
-
-pub of-survey-spec : {M : Type 1} → statement M
-of-survey-spec = tie.close (tie.spec (λ c κs. search needs) (λ c. search surveyed))
