@@ -1,5 +1,6 @@
 pub mod Line
 pub mod Rules
+pub mod Tests
 pub mod Check
 pub mod Calls
 pub mod Survey

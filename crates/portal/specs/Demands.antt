@@ -8,7 +8,9 @@ use lib.Dec.{T}
 use Rattle.words.specs.declared.Answer.{Answer}
 use Rattle.words.specs.declared.Answer.the-variants.{Seen}
 use Rattle.book.specs.Sizes.{Size}
-use Rattle.book.specs.Steps.{Step, look, desk, idle, decode}
+use Rattle.book.specs.declared.DeskStep.the-variants.{Look as look}
+use Rattle.book.specs.declared.Deed.the-variants.{Desk as desk}
+use Rattle.book.specs.Steps.{Step, idle, decode}
 use Rattle.book.specs.Book as B
 use Rattle.book.specs.Counts.{placed, got, took, won, lost, unfetched, waiting, handed, times, bound}
 use Rattle.line.specs.declared.Checked.{Checked}
