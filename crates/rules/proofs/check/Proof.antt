@@ -52,7 +52,23 @@ module _ (c : tie.Else1 Inv-loop μ-loop) where
   sixteen : length (head .desks) ≡ 16
   sixteen = search length-of
 
--- rule 1, 2 or 3 was kept: what the test says of the line, and the place before it
+-- ---- the places of the code: rule 1, 2 or 3 was kept, and the place before it
+
+abbrev broken1 : tie.Then2 Inv-loop μ-loop → tie.Else1 Inv-loop μ-loop
+broken1 c = c .before .before .before
+
+abbrev broken2 : tie.Then3 Inv-loop μ-loop → tie.Else2 Inv-loop μ-loop
+broken2 c = c .before .before .before .before
+
+abbrev asked2 : tie.After-rule2 Inv-loop μ-loop → tie.Else2 Inv-loop μ-loop
+asked2 c = c .before .before .before
+
+abbrev asked7 : tie.After-rule7 Inv-loop μ-loop → tie.Else7 Inv-loop μ-loop
+asked7 c = c .before .before
+
+abbrev in-loop : tie.In-loop Inv-loop μ-loop → tie.Else4 Inv-loop μ-loop
+in-loop c = c .before .before .before .before
+
 abbrev past1 : tie.Else2 Inv-loop μ-loop → tie.Else1 Inv-loop μ-loop
 past1 c = c .before .before .before
 
@@ -68,7 +84,7 @@ says1 c = rule1 _ _ (fit (c .before .before) .ring) _ (c .rule1 .ensures)
 one : (c : tie.Else2 Inv-loop μ-loop) → holds (line (past1 c)) 64 R.rule1 ≡ true
 one c = says1 (c .before) ∙ not-false _ (c .if2 .left)
 
-says2 : (c : tie.After-rule2 Inv-loop μ-loop) → holds (line (past1 (c .before .before .before))) 64 R.rule2 ≡ c .rule2 .result
+says2 : (c : tie.After-rule2 Inv-loop μ-loop) → holds (line (past1 (asked2 c))) 64 R.rule2 ≡ c .rule2 .result
 says2 c = let b = c .before .before in rule2 _ _ (fit (past1 (b .before)) .ring) _ _ (one (b .before)) (b .current-block .ensures .1) (c .rule2 .ensures)
 
 two : (c : tie.Else3 Inv-loop μ-loop) → holds (line (past1 (past2 c))) 64 R.rule2 ≡ true
@@ -78,10 +94,10 @@ says3 : (c : tie.After-rule3 Inv-loop μ-loop) → holds (line (past1 (past2 (c 
 says3 c = rule3 _ _ (fit (past1 (past2 (c .before))) .ring) _ (c .rule3 .ensures)
 
 returns-2 : tie.Need-returns-2 Inv-loop μ-loop
-returns-2 c = sym (fit (c .before .before .before) .order ∙ head-1 _ _ (says1 (c .before) ∙ not-true _ (c .if2 .taken)))
+returns-2 c = sym (fit (broken1 c) .order ∙ head-1 _ _ (says1 (c .before) ∙ not-true _ (c .if2 .taken)))
 
 returns-3 : tie.Need-returns-3 Inv-loop μ-loop
-returns-3 c = let b = c .before .before .before .before in sym (fit (past1 b) .order ∙ head-2 _ _ (one b) (says2 (c .before) ∙ not-true _ (c .if3 .taken)))
+returns-3 c = let b = broken2 c in sym (fit (past1 b) .order ∙ head-2 _ _ (one b) (says2 (c .before) ∙ not-true _ (c .if3 .taken)))
 
 returns-4 : tie.Need-returns-4 Inv-loop μ-loop
 returns-4 c =
@@ -97,7 +113,7 @@ loop-holds c =
 
 module _ (c : tie.In-loop Inv-loop μ-loop) where
   abbrev start : tie.Else1 Inv-loop μ-loop
-  start = past1 (past2 (past3 (c .before .before .before .before)))
+  start = past1 (past2 (past3 (in-loop c)))
 
   abbrev ring : Ring (head start .nb) (head start .p) (head start .p % head start .nb)
   ring = fit start .ring
@@ -164,12 +180,12 @@ returns-7 c =
 
 returns-8 : tie.Need-returns-8 Inv-loop μ-loop
 returns-8 c =
-    let f = c .before .before .before in let e = f .before .before in let d = e .before .before in let b = turn (at5 d) in
+    let f = asked7 (c .before) in let e = f .before .before in let d = e .before .before in let b = turn (at5 d) in
     sym (b .before .loop .inv .1 ∙ block-7 _ _ _ (b .loop-test .taken) (four d) (five e) (six f) (says7 (c .before) ∙ not-true _ (c .if8 .taken)))
 
 loop-again : tie.Need-loop-again Inv-loop μ-loop
 loop-again c =
-    let f = c .before .before .before in let e = f .before .before in let d = e .before .before in let b = turn (at5 d) in
+    let f = asked7 (c .before) in let e = f .before .before in let d = e .before .before in let b = turn (at5 d) in
     (omega arith, b .before .loop .inv .1 ∙ block-past _ _ _ (b .loop-test .taken) (four d) (five e) (six f) (says7 (c .before) ∙ not-false _ (c .if8 .left)))
 
 returns-9 : tie.Need-returns-9 Inv-loop μ-loop
@@ -191,4 +207,4 @@ check-spec =
     (λ c κs. (ring (turn c) .few, inside (turn c), turn-block _ _ _ _ (inside (turn c)) (c .current-turn .ensures))) returns-5
     (λ c κs. search) returns-6 (λ c κs. search) returns-7
     (λ c κs. search) (λ c κs. held-few _ _ _ (sixteen (start (turn (at7 (c .before))))) (counted c)) returns-8
-    (λ c. let b = turn (at7 (c .before .before .before)) in omega (arith, inside b, ring b .few)) (λ c. omega arith) loop-again returns-9)
+    (λ c. let b = turn (at7 (asked7 (c .before))) in omega (arith, inside b, ring b .few)) (λ c. omega arith) loop-again returns-9)

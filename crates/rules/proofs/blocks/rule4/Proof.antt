@@ -5,6 +5,9 @@ use Rattle.rules.proofs.Records.{product, rule4-used}
 use Rattle.rules.proofs.blocks.rule4.Statement.{statement}
 use Rattle.rules.proofs.blocks.rule4.Tie as tie
 
+unused : tie.Need-returns-2
+unused c = let branch = c .before .before .before .before in rw (branch .if1 .left)
+
 pub rule4-spec : {M : Type 1} → statement M
 rule4-spec =
     tie.close
@@ -13,4 +16,4 @@ rule4-spec =
     (λ c. let a = c .before .before .args in omega (arith, product (a .c .round) (a .nb) 65535 64 (omega arith) (omega arith)))
     (λ c. let a = c .before .before .args in omega (arith, product (a .c .round) (a .nb) 65535 64 (omega arith) (omega arith)))
     (λ c. search rule4-used)
-    (λ c. rw (c .before .before .before .before .if1 .left)))
+    unused)

@@ -17,9 +17,13 @@ Inv-loop desks turns₀ d₀ turns d = (d ≤ 16) × (length desks ≡ 16) × (t
 abbrev μ-loop : tie.MeasureT-loop
 μ-loop desks turns₀ d₀ turns d = 16 - d
 
+-- where the loop stands, once desk d's turn is known
+abbrev at-loop : tie.After-held-turn Inv-loop μ-loop → tie.At-loop Inv-loop μ-loop
+at-loop c = c .before .before .before
+
 loop-again : tie.Need-loop-again Inv-loop μ-loop
 loop-again c =
-    let l = c .before .before .before .loop in let ds = c .before .before .before .before .args .t1 in (
+    let l = at-loop c .loop in let ds = at-loop c .before .args .t1 in (
       omega arith,
       l .inv .1,
       ap₂ (λ (ts : List ℕ) (t : ℕ). set ts (l .d) t) (l .inv .2) (c .held-turn .ensures) ∙ map-more heldTurn (numbersOf idle) (l .d) ds _ (omega arith) (omega arith),

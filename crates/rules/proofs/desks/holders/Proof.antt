@@ -25,7 +25,7 @@ one c =
 
 loop-again : tie.Need-loop-again Inv-loop μ-loop
 loop-again c =
-    let l = c .before .before .loop in let a = c .before .before .before .args in
+    let b = c .before .before in let l = b .loop in let a = b .before .args in
     (omega arith, l .inv .1, omega (arith, one c), count-more 0 (a .t1) (isTurn (a .turn)) (l .count) (l .d) (c .is-turn .result) (omega arith) (c .is-turn .ensures) (l .inv .3))
 
 returns : tie.Need-returns Inv-loop μ-loop

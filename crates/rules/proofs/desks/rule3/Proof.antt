@@ -74,8 +74,9 @@ module _ (q : tie.At-loop Inv-loop μ-loop) where
 
 loop-holds : tie.Need-loop-holds Inv-loop μ-loop
 loop-holds c =
-    let h = c .before .before .before .args .h in
-    let f = obeyed (h .nb) (h .ne) (h .p) (recordOf (sizeOf h) (c .before .before .before .args .t2)) in
+    let a = c .before .before .before .args in
+    let h = a .h in
+    let f = obeyed (h .nb) (h .ne) (h .p) (recordOf (sizeOf h) (a .t2)) in
     (omega arith, search length-of, ap (λ (n : ℕ). rest f free n (h .desks)) (sym (sub-zero (h .t))))
 
 -- an idle desk
