@@ -19,6 +19,11 @@ static void print(unsigned long step, const char *word, uint32_t value)
     printf("%lu %s %lu\n", step, word, (unsigned long)value);
 }
 
+static size_t least(size_t a, size_t b)
+{
+    return a < b ? a : b;
+}
+
 /* Four bytes, high byte first. */
 static uint32_t number(const unsigned char *at)
 {
@@ -47,8 +52,8 @@ int main(void)
     }
 
     /* A header may name more than there is: then all of it is lent, and opening refuses the sizes. */
-    nb = bytes[5] <= LBQ_MOST_NB ? bytes[5] : LBQ_MOST_NB;
-    lent = nb * (bytes[6] <= LBQ_MOST_NE ? bytes[6] : LBQ_MOST_NE);
+    nb = least(bytes[5], LBQ_MOST_NB);
+    lent = nb * least(bytes[6], LBQ_MOST_NE);
     answer = lbq_open(&head, table, nb, entries, lent, bytes[5], bytes[6], bytes[7]);
     if (answer.number != LBQ_TAKEN) {
         print(0, lbq_word(LBQ_PUT, answer.number), answer.value);
