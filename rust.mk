@@ -49,7 +49,7 @@ first: $(lbq_lib)
 	@for name in first play held; do $(cxx11) examples/c/$$name.c || exit 1; done
 	@$(c99) target/c/readme.c $(linked_with) -o target/c/readme
 	@target/c/first | diff examples/c/first.expected -
-	@examples/c/played "$(CURDIR)/target/c/play"
+	@examples/played "$(CURDIR)/target/c/play"
 	@examples/c/held "$(CURDIR)/target/c/held"
 	@test "$$(target/c/readme)" = "WHOLE 100"
 	@echo "the C examples print what they should, and the header says what the definitions say"
@@ -62,6 +62,7 @@ rust: $(lbq_lib)
 		else echo "there is no clippy here: the Rust code is not looked at by it"; fi
 	@cd rust && RUSTDOCFLAGS="-D warnings" cargo doc --offline --release --quiet --no-deps
 	@cd rust && cargo test --offline --release
+	@examples/played cargo run --offline --release --quiet --manifest-path "$(CURDIR)/rust/Cargo.toml" --example play
 
 # Library, model and book on STEPS steps, from SEED or from the clock.
 soak: $(lbq_lib)

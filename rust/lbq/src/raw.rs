@@ -45,6 +45,9 @@ pub struct Views {
 const _: () = assert!(size_of::<Answer>() == 8 && size_of::<Checked>() == 12 && size_of::<Views>() == 24);
 
 extern "C" {
+    /// The number of the library's interface.
+    pub fn lbq_version() -> u32;
+
     /// Opens a line of NB blocks, NE entries a block and T desks on this memory.
     pub fn lbq_open(
         head: *mut Head,
