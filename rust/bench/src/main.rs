@@ -98,7 +98,8 @@ struct Line {
 impl Line {
     /// Opened, and three quarters filled.
     fn filled(nb: u32, ne: u32, t: u32) -> Self {
-        let mut line = lbq::Line::open(nb, ne, t).expect("the sizes are fit");
+        let sizes = lbq::Sizes { blocks: nb, entries: ne, desks: t };
+        let mut line = lbq::Line::open(sizes).expect("the sizes are fit");
         line.order(1, nb * ne * 3 / 4).expect("there is room");
         let (head, table, entries) = line.into_parts();
         Self { head, table, entries }
