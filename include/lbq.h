@@ -128,11 +128,11 @@ typedef struct {
     uint32_t number, count, lowest;
 } lbq_views;
 
-#if defined(__cplusplus) && __cplusplus >= 201103L
-static_assert(sizeof(lbq_head) == 144 && sizeof(lbq_block) == 8 && sizeof(lbq_views) == 24, "layout");
-#elif defined(__STDC_VERSION__) && __STDC_VERSION__ >= 201112L
-_Static_assert(sizeof(lbq_head) == 144 && sizeof(lbq_block) == 8 && sizeof(lbq_views) == 24, "layout");
-#endif
+/* The layout that the library reads and writes: where a compiler has another, this line is an error. */
+typedef char lbq_layout[sizeof(lbq_desk) == 8 && sizeof(lbq_block) == 8 && sizeof(lbq_head) == 144 &&
+                                sizeof(lbq_answer) == 8 && sizeof(lbq_checked) == 12 && sizeof(lbq_views) == 24
+                            ? 1
+                            : -1];
 
 /* Opens a line of nb blocks, ne entries a block and t desks: every number becomes 0 and every desk idle, whatever
  * stood there. UNFIT, with everything left as found, for a size outside its limits or lengths that are not nb and nb
