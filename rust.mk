@@ -11,7 +11,7 @@ cxx11 := $(CXX) $(CFLAGS) -std=c++11 -Iinclude -x c++ -fsyntax-only
 # The toolchain's library is for x86-64. Elsewhere `make native` compiles the proved module for the machine at hand.
 machine := $(shell uname -m)
 elsewhere := $(filter-out x86_64,$(machine))
-use_native := liblbq.a of the toolchain is for x86-64, and this machine is $(machine): make native, then LBQ_LIB_DIR=target/native
+use_native := the library is for x86-64, and this machine is $(machine): `make native`, then LBQ_LIB_DIR=target/native
 lbq_lib := $(if $(LBQ_LIB_DIR),given,$(if $(elsewhere),unlinkable,lib))
 override LBQ_LIB_DIR := $(if $(LBQ_LIB_DIR),$(abspath $(LBQ_LIB_DIR)),$(CURDIR)/target/staticlib)
 export LBQ_LIB_DIR
@@ -22,7 +22,7 @@ linked_with = -L$(LBQ_LIB_DIR) -llbq $(LBQ_LINK)
 # The library for C and Rust: target/staticlib/liblbq.a.
 lib:
 	@$(RT) staticlib lbq
-	@$(if $(elsewhere),echo "$(use_native)")
+	@$(if $(elsewhere),echo '$(use_native)')
 
 # The gate begins with an empty target/. This puts the library back where `cargo build` finds it; it is proved by then.
 keep-lib:
@@ -37,7 +37,7 @@ given:
 	@test -f "$(LBQ_LIB_DIR)/liblbq.a" || { echo "LBQ_LIB_DIR: there is no $(LBQ_LIB_DIR)/liblbq.a" >&2; exit 1; }
 
 unlinkable:
-	@echo "$(use_native)" >&2
+	@echo '$(use_native)' >&2
 	@exit 1
 
 # The C examples, built as C and the header as C++, print what they should: first.c its lines, play.c every stored
@@ -54,7 +54,8 @@ first: $(lbq_lib)
 	@test "$$(target/c/readme)" = "WHOLE 100"
 	@echo "the C examples print what they should, and the header says what the definitions say"
 
-# The Rust crate: its layout, clippy's advice, its pages, its examples; library, model and book on a fixed stretch of runs.
+# The Rust crate: its layout, clippy's advice, its pages, its examples; library, model and book on a fixed stretch of
+# runs.
 rust: $(lbq_lib)
 	@cd rust && cargo fmt --check
 	@cd rust && if cargo clippy --version >/dev/null 2>&1; \

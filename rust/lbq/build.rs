@@ -1,5 +1,5 @@
-//! Finds the proved library's archive, liblbq.a: in LBQ_LIB_DIR, or where `make lib` writes it. The header beside it has
-//! to be of the version that this crate is written for.
+//! Finds the proved library's archive, liblbq.a: in LBQ_LIB_DIR, or where `make lib` writes it. The header beside it
+//! has to be of the version that this crate is written for.
 
 use std::env;
 use std::fs;

@@ -213,8 +213,8 @@ fn nearly_right() {
     });
 }
 
-/// NB 4, NE 3, T 4. Turns 2 to 5: K is 3 with one label stolen, one read; turn 4 is full, turn 5 has one label. Desk 0 has
-/// claimed in turn 3, desk 1 fetched in turn 4, desk 2 looked at turn 4, desk 3 is idle.
+/// NB 4, NE 3, T 4. Turns 2 to 5: K is 3 with one label stolen, one read; turn 4 is full, turn 5 has one label. Desk
+/// 0 has claimed in turn 3, desk 1 fetched in turn 4, desk 2 looked at turn 4, desk 3 is idle.
 fn line_to_damage(run: &mut Run) {
     plays(
         run,

@@ -1,10 +1,10 @@
 //! A line of labels that idle presses may take from.
 //!
-//! The press that owns a [`Line`] puts labels in and gets them out, first in, first out. When another press runs dry, its
-//! *desk* takes labels too: it looks at a block, claims the next label there, fetches it, and says when it is finished.
-//! Every call is one step with one answer, and a step that cannot be done is refused with a word that says why
-//! ([`Refusal`]). The steps themselves are the proved library's; this crate only lends it memory and names its answers,
-//! and is no part of the proof.
+//! The press that owns a [`Line`] puts labels in and gets them out, first in, first out. When another press runs dry,
+//! its *desk* takes labels too: it looks at a block, claims the next label there, fetches it, and says when it is
+//! finished. Every call is one step with one answer, and a step that cannot be done is refused with a word that says
+//! why ([`Refusal`]). The steps themselves are the proved library's; this crate only lends it memory and names its
+//! answers, and is no part of the proof.
 //!
 //! ```
 //! use lbq::{Line, Refusal, Sizes};
@@ -28,8 +28,8 @@
 //! # Ok::<(), Box<dyn std::error::Error>>(())
 //! ```
 //!
-//! A [`Line`] owns its memory, or works on memory that was lent to it ([`LineMut`]). Lent memory may be of any length and
-//! hold any numbers: what is not a sound line is refused, and stays as it was found.
+//! A [`Line`] owns its memory, or works on memory that was lent to it ([`LineMut`]). Lent memory may be of any length
+//! and hold any numbers: what is not a sound line is refused, and stays as it was found.
 //!
 //! ```
 //! use lbq::{Block, Head, LineMut, Refusal, Sizes};
@@ -43,7 +43,8 @@
 //! head.k = 1; // somebody else wrote the head
 //! let mut line = LineMut::over(&mut head, &mut table, &mut entries);
 //! assert_eq!(line.get(), Err(Refusal::Damaged));
-//! assert_eq!(line.check().unwrap_err().to_string(), "DAMAGED: the head breaks rule 1, of the put turn and the get turn");
+//! let fault = line.check().unwrap_err();
+//! assert_eq!(fault.to_string(), "DAMAGED: the head breaks rule 1, of the put turn and the get turn");
 //! # Ok::<(), Box<dyn std::error::Error>>(())
 //! ```
 //!

@@ -12,11 +12,11 @@ use std::borrow::BorrowMut;
 
 /// A line: a head, a block table and entries, with the steps on them.
 ///
-/// [`Line::open`] makes a line that owns its memory. [`Line::over`] takes memory from elsewhere, by reference or by value:
-/// anything that borrows as a [`Head`], as `[Block]` and as `[u32]`.
+/// [`Line::open`] makes a line that owns its memory. [`Line::over`] takes memory from elsewhere, by reference or by
+/// value: anything that borrows as a [`Head`], as `[Block]` and as `[u32]`.
 ///
-/// Every step checks the memory first. On a refusal it stays as it was, except for what the paper names: the blocks that
-/// an `EMPTY` get left behind, the idle desk of `LOST`, and the labels that an order had placed.
+/// Every step checks the memory first. On a refusal it stays as it was, except for what the paper names: the blocks
+/// that an `EMPTY` get left behind, the idle desk of `LOST`, and the labels that an order had placed.
 #[derive(Clone, Debug)]
 pub struct Line<H = Head, B = Vec<Block>, E = Vec<u32>> {
     head: H,
@@ -89,8 +89,8 @@ where
     ///
     /// # Errors
     ///
-    /// [`Refusal::Unfit`] for a size outside its limits, or memory of other lengths than NB and NB × NE. Everything stays
-    /// as it was.
+    /// [`Refusal::Unfit`] for a size outside its limits, or memory of other lengths than NB and NB × NE. Everything
+    /// stays as it was.
     pub fn reopen(&mut self, sizes: Sizes) -> Result<(), Refusal> {
         let Sizes { blocks: nb, entries: ne, desks: t } = sizes;
         let (head, table, entries) = self.lend();

@@ -4,7 +4,8 @@ use crate::version::VERSION;
 use std::error::Error;
 use std::fmt;
 
-/// Why a step was not done. It prints as a sentence that begins with the paper's word; [`word`](Self::word) is that word.
+/// Why a step was not done. It prints as a sentence that begins with the paper's word; [`word`](Self::word) is that
+/// word.
 ///
 /// Where more than one of these fifteen could be given it is the first: the paper makes its tests in the order of its
 /// numbers. Refusals that come later have larger numbers and may be tested earlier.

@@ -1,5 +1,5 @@
-//! The crate's numbers and words are those of the proved definitions, as `examples/definitions` reads them out, and those
-//! of the header.
+//! The crate's numbers and words are those of the proved definitions, as `examples/definitions` reads them out, and
+//! those of the header.
 
 use lbq::{Refusal, Sizes, Stage, Step, LAST_LABEL, LAST_ROUND, VERSION};
 use std::collections::BTreeMap;
