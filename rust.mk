@@ -16,6 +16,8 @@ lbq_lib := $(if $(LBQ_LIB_DIR),given,$(if $(elsewhere),unlinkable,lib))
 override LBQ_LIB_DIR := $(if $(LBQ_LIB_DIR),$(abspath $(LBQ_LIB_DIR)),$(CURDIR)/target/staticlib)
 export LBQ_LIB_DIR
 linked_with = -L$(LBQ_LIB_DIR) -llbq $(LBQ_LINK)
+if_installed = cd rust && if cargo $(1) --version >/dev/null 2>&1; then cargo $(1) $(2); \
+	else echo "there is no cargo $(1) here, so nothing is said of the Rust code by it"; fi
 
 .PHONY: lib keep-lib native given unlinkable first rust soak bench
 
@@ -26,6 +28,7 @@ lib:
 
 # The gate begins with an empty target/. This puts the library back where `cargo build` finds it; it is proved by then.
 keep-lib:
+	@mkdir -p target
 	@$(RT) staticlib lbq >target/keep-lib.log 2>&1 || { cat target/keep-lib.log; exit 1; }
 	@echo "the library is target/staticlib/liblbq.a, for x86-64"
 
@@ -57,10 +60,8 @@ first: $(lbq_lib)
 # The Rust crate: its layout, clippy's advice, its pages, its examples; library, model and book on a fixed stretch of
 # runs.
 rust: $(lbq_lib)
-	@cd rust && cargo fmt --check
-	@cd rust && if cargo clippy --version >/dev/null 2>&1; \
-		then cargo clippy --offline --release --quiet --all-targets -- -D warnings; \
-		else echo "there is no clippy here: the Rust code is not looked at by it"; fi
+	@$(call if_installed,fmt,--check)
+	@$(call if_installed,clippy,--offline --release --quiet --all-targets -- -D warnings)
 	@cd rust && RUSTDOCFLAGS="-D warnings" cargo doc --offline --release --quiet --no-deps
 	@cd rust && cargo test --offline --release
 	@examples/played cargo run --offline --release --quiet --manifest-path "$(CURDIR)/rust/Cargo.toml" --example play
