@@ -7,3 +7,4 @@ mod Reading
 mod Passing
 mod Replied
 pub mod Unique
+pub mod OneVersion

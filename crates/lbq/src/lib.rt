@@ -24,6 +24,7 @@
 // tell, and nothing is promised then.
 mod narrow;
 mod replies;
+mod version;
 
 ghost use Rattle.portal.specs.Promises.{lent};
 ghost use Rattle.lbq.specs.Promises.{Opens, Steps, Orders, Checks, Surveys};
