@@ -11,6 +11,7 @@ use engine::opening::open;
 use engine::step::step;
 use libc::STDERR_FILENO;
 use libc::STDOUT_FILENO;
+use schedule::Message;
 use words::number;
 use words::value;
 ghost use Prim.Native.Nat.{_≤_, _<_};
@@ -39,13 +40,6 @@ const FINISH: u8 = 48;
 
 const LOOK: u8 = 64;
 
-// A step as it is asked for.
-struct Asked {
-    code: u8,
-    a: u32,
-    b: u32,
-}
-
 // What a loop adds up.
 struct Total {
     sum: u64,
@@ -72,10 +66,10 @@ fn other(i: u32) -> u8
 }
 
 // A desk's step: its code, and the block that a look names.
-fn by_desk(code: u8, d: u8, block: u32) -> Asked
+fn by_desk(code: u8, d: u8, block: u32) -> Message
     requires { ⌜ (code ≤ 64) × (d < 16) ⌝ }
 {
-    Asked {
+    Message {
         code: code + d,
         a: block,
         b: 0,
@@ -84,7 +78,7 @@ fn by_desk(code: u8, d: u8, block: u32) -> Asked
 
 // Step i of a cycle: the owner puts five labels and gets three, and the two desks make a round each. A get
 // stands between look and claim, so that some claims are lost to the owner.
-fn in_cycle(i: u32, nb: u32) -> Asked
+fn in_cycle(i: u32, nb: u32) -> Message
     requires { ⌜ 1 ≤ nb ⌝ }
 {
     match i % 16 {
@@ -96,12 +90,12 @@ fn in_cycle(i: u32, nb: u32) -> Asked
         10 => by_desk(FETCH, other(i), 0),
         13 => by_desk(FINISH, desk(i), 0),
         14 => by_desk(FINISH, other(i), 0),
-        4 | 8 | 12 => Asked {
+        4 | 8 | 12 => Message {
             code: GET,
             a: 0,
             b: 0,
         },
-        _ => Asked {
+        _ => Message {
             code: PUT,
             a: i % 1000000,
             b: 0,
@@ -110,11 +104,11 @@ fn in_cycle(i: u32, nb: u32) -> Asked
 }
 
 // Step i of the schedule. The first is an order that fills three quarters of the line.
-fn ask(i: u32, nb: u32) -> Asked
+fn ask(i: u32, nb: u32) -> Message
     requires { ⌜ (1 ≤ nb) × (nb ≤ 64) ⌝ }
 {
     if i == 0 {
-        return Asked {
+        return Message {
             code: ORDER,
             a: 0,
             b: nb * 64 * 3 / 4 - 1,

@@ -9,7 +9,8 @@ use Rattle.line.specs.Line as L
 use Rattle.line.specs.Rules.{ofBlocks, inOrder}
 use Rattle.line.specs.Check as C
 use Rattle.line.specs.Calls as Calls
-use Rattle.player.specs.Schedule as S
+use Rattle.schedule.specs.Bytes as B
+use Rattle.player.specs.Spoken as S
 use Rattle.player.specs.Printed as P
 use Rattle.player.specs.Demands.{PlayedOnly}
 use Rattle.player.proofs.Demands.{played-only}
@@ -34,7 +35,7 @@ unfolding shared desks owner C.isCurrent C.deskHolds C.noClash C.isZeros C.holds
 check = tt
 
 schedule : Unit {0}
-unfolding check Calls.step Calls.answers S.isHeader S.stepsFrom S.stepsOf S.numbered S.cutShort S.run S.opening S.played
+unfolding check Calls.step Calls.answers B.isHeader B.stepsFrom B.stepsOf S.numbered S.cutShort S.run S.playedWith S.played
 schedule = tt
 
 print : Unit {0}

@@ -14,7 +14,7 @@ use Rattle.words.specs.declared.Answer.the-variants.{Put, Got, Took, Whole, See
 use Rattle.words.specs.declared.Letters.{Letters}
 use Rattle.words.specs.Words.{refusal, said, letters, spelled}
 use Rattle.words.specs.Promises.{Valued, Worded}
-use Rattle.player.specs.Schedule.{spoken, only}
+use Rattle.player.specs.Spoken.{spoken, only}
 use Rattle.player.specs.Printed.{space, newline, digit, decimal, lineText, line, printed}
 use Rattle.player.specs.Parts.{Writes, lettersOf}
 use Rattle.player.proofs.Stores.{writes-more}

@@ -34,7 +34,7 @@ use Rattle.rules.proofs.Lent.{lent-length}
 use Rattle.rules.proofs.Records.{product}
 use Rattle.player.specs.Parts.{Writes, Ready, entriesLent, Playable}
 use Rattle.player.specs.Printed.{printed}
-use Rattle.player.specs.Schedule.{only, run, opening}
+use Rattle.player.specs.Spoken.{only, run, playedWith}
 
 -- n records put back in front of a table are those that it lends
 lent-back : (t u : List Block) (n : ℕ) → n ≤ 64 → length u ≡ n → lentTable (putBack t n u) n ≡ u
@@ -118,10 +118,10 @@ opened-playable bs o store z l p f e =
     subst⁻¹ (λ (u : Line). Playable bs o u (z .nb)) e (record { header = p .header; few = p .few; room = p .room; sound = opened-lawful z f; blocks = refl })
 
 pub opening-runs : (bs : List ℕ) (z : Size) (l : Line) (r : ℕ) (o after : List ℕ) → T (fits z) → l ≡ opened z → Writes 0 (printed (run bs l)) o r after
-    → Writes 0 (printed (opening bs z)) o r after
-unfolding opening
+    → Writes 0 (printed (playedWith bs z)) o r after
+unfolding playedWith
 opening-runs bs z l r o after f e w = rw (T→true (fits z) f, ← e) w
 
-pub opening-unfit : (bs : List ℕ) (z : Size) (r : ℕ) (o after : List ℕ) → fits z ≡ false → Writes 0 (printed (only "UNFIT")) o r after → Writes 0 (printed (opening bs z)) o r after
-unfolding opening
+pub opening-unfit : (bs : List ℕ) (z : Size) (r : ℕ) (o after : List ℕ) → fits z ≡ false → Writes 0 (printed (only "UNFIT")) o r after → Writes 0 (printed (playedWith bs z)) o r after
+unfolding playedWith
 opening-unfit bs z r o after e w = rw e w

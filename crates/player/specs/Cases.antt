@@ -7,7 +7,7 @@ use Prim.Native.Nat.{ℕ, _+_}
 use Prim.Native.String.{String}
 use lib.ListN.{length, take, replicate}
 use Rattle.words.specs.Words.{letters}
-use Rattle.player.specs.Schedule.{isHeader}
+use Rattle.schedule.specs.Bytes.{isHeader}
 use Rattle.player.specs.Printed.{decimal, text}
 
 pub record Case : Type 0 where

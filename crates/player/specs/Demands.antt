@@ -10,7 +10,8 @@ use Rattle.book.specs.Choice.{if_then_else_}
 use Rattle.book.specs.Total.{all}
 use Rattle.book.specs.Sizes.{within, fits}
 use Rattle.book.specs.Book as B
-use Rattle.player.specs.Schedule.{isLong, isHeader, sizeIn, wholeSteps, stepsOf, isCut, only, numbered, cutShort, played}
+use Rattle.schedule.specs.Bytes.{isLong, isHeader, sizeIn, wholeSteps, stepsOf, isCut}
+use Rattle.player.specs.Spoken.{only, numbered, cutShort, played}
 use Rattle.player.specs.Printed.{decimal}
 
 -- ---- demand 2

@@ -1,5 +1,5 @@
--- What the functions behind `play` promise and ask for: a step as it is read, bytes written from a place on, the entries that
--- are lent, and what the line is played with.
+-- What the functions behind `play` promise and ask for: bytes written from a place on, the entries that are lent, and what
+-- the line is played with.
 use mathlib.Core.Path.{_≡_}
 use mathlib.Core.List.{List}
 use Prim.Native.Nat.{ℕ, _+_, _*_, _≤_}
@@ -7,18 +7,13 @@ use lib.ListN.{length, take, replicate}
 use lib.Seq.{sets}
 use Rattle.words.specs.declared.Letters.{Letters}
 use Rattle.book.specs.Choice.{if_then_else_, _<ᵇ_}
-use Rattle.book.specs.Steps.{Step}
 use Rattle.line.specs.Line.{Line, sizeOf}
 use Rattle.line.specs.Agrees.{Lawful}
-use Rattle.player.specs.declared.reading.Asked.{Asked}
-use Rattle.player.specs.Schedule.{limit, headerBytes}
+use Rattle.schedule.specs.Bytes.{limit, headerBytes}
 
--- ---- reading and writing
+-- ---- writing
 
--- a step as it is read, and the letters of a word as it is handed over
-abbrev pub stepOf : Asked → Step
-stepOf s = record { code = s .code; a = s .a; b = s .b }
-
+-- the letters of a word as it is handed over
 abbrev pub lettersOf : Letters → List ℕ
 lettersOf w = take (w .len) (w .bytes)
 

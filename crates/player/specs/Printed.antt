@@ -4,7 +4,7 @@ use mathlib.Core.List.{List, [], _∷_, _++_}
 use Prim.Native.Nat.{ℕ, zero, suc, _+_, _/_, _%_}
 use Rattle.words.specs.Words.{letters}
 use Rattle.book.specs.Choice.{if_then_else_, _<ᵇ_}
-use Rattle.player.specs.Schedule.{Spoken, played}
+use Rattle.player.specs.Spoken.{Spoken, played}
 
 abbrev pub space : ℕ
 space = 32

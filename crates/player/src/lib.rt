@@ -1,17 +1,15 @@
 // The schedule player: a schedule's bytes in, the printed lines out.
 //
 // `play` takes the whole schedule, of any length, and writes its text to the front of `out`. What a
-// schedule means stands in specs/Schedule.antt, the text of its lines in specs/Printed.antt, and the
+// schedule means stands in specs/Spoken.antt, the text of its lines in specs/Printed.antt, and the
 // promise in specs/Promises.antt: the text, its length, and nothing behind it changed.
 mod opening;
-mod reading;
 mod steps;
 mod writing;
 
 use opening::play_opened;
-use reading::is_header;
-use reading::is_long;
-pub use reading::number_in;
+use schedule::reading::is_header;
+use schedule::reading::is_long;
 use writing::only_header;
 use writing::only_long;
 ghost use Rattle.player.specs.Promises.{Plays};

@@ -6,7 +6,7 @@ use engine::opening::no_table;
 use engine::opening::open;
 use line::Opening;
 ghost use mathlib.Core.Path.{_≡_};
-ghost use Rattle.player.specs.Schedule.{opening};
+ghost use Rattle.player.specs.Spoken.{playedWith};
 ghost use Rattle.player.specs.Printed.{printed};
 ghost use Rattle.player.specs.Parts.{Writes, Ready, entriesLent};
 
@@ -22,7 +22,7 @@ fn lent(nb: u8, ne: u8) -> usize
 // The store is 4,096 entries, all zero; its first nb x ne are lent on.
 pub fn play_opened(input: &[u8], out: &mut [u8], store: &mut [u32], nb: u8, ne: u8, t: u8) -> usize
     requires { ⌜ Ready (now input) (now out) (now store) ⌝ }
-    ensures { λ r. ⌜ Writes 0 (printed (opening (now (input .entry)) (record { nb = nb; ne = ne; t = t }))) (now (out .entry)) r (now (out .exit)) ⌝ }
+    ensures { λ r. ⌜ Writes 0 (printed (playedWith (now (input .entry)) (record { nb = nb; ne = ne; t = t }))) (now (out .entry)) r (now (out .exit)) ⌝ }
 {
     let m = lent(nb, ne);
     let n = nb as usize;

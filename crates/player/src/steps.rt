@@ -1,16 +1,16 @@
 // The steps of a schedule, one after the other, on the line that was opened for it.
-use crate::reading::is_cut;
-use crate::reading::step_at;
-use crate::reading::whole_steps;
 use crate::writing::write_answer;
 use crate::writing::write_cut;
 use engine::step::step;
 use line::Block;
 use line::Head;
+use schedule::reading::is_cut;
+use schedule::reading::step_at;
+use schedule::reading::whole_steps;
 ghost use mathlib.Core.Path.{_≡_};
 ghost use Prim.Native.Nat.{suc, _<_};
 ghost use Rattle.rules.specs.Lent.{lineOf};
-ghost use Rattle.player.specs.Schedule.{run};
+ghost use Rattle.player.specs.Spoken.{run};
 ghost use Rattle.player.specs.Printed.{printed};
 ghost use Rattle.player.specs.Parts.{Writes, Playable};
 

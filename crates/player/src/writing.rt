@@ -10,7 +10,7 @@ ghost use mathlib.Core.List.{_∷_, [], _++_};
 ghost use Prim.Native.Nat.{_+_, _≤_, _<_};
 ghost use lib.ListN.{length};
 ghost use Rattle.player.specs.Printed.{space, digit, decimal, lineText, line, printed};
-ghost use Rattle.player.specs.Schedule.{spoken, cutAt, only};
+ghost use Rattle.player.specs.Spoken.{spoken, cutAt, only};
 ghost use Rattle.player.specs.Parts.{Writes, lettersOf};
 
 // A word of `len` letters, and zeros behind them.

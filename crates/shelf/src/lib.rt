@@ -3,7 +3,7 @@
 // name after a `#`, and then what playing the schedule prints. What is cut short at the end is not played.
 use libc::STDIN_FILENO;
 use libc::STDOUT_FILENO;
-use player::number_in;
+use schedule::reading::number_in;
 ghost use Prim.Native.Nat.{_+_, _≤_, _<_};
 ghost use lib.ListN.{length};
 

@@ -5,7 +5,8 @@ use native.Mathlib.Omega.{arith}
 use borrow.Author.Tests.{ltb-false}
 use borrow.Author.Needs.{needs}
 use lib.ListN.{length}
-use Rattle.player.proofs.Whole.{header-long, long-plays, header-plays, opening-plays}
+use Rattle.schedule.proofs.Bytes.{header-long}
+use Rattle.player.proofs.Whole.{long-plays, header-plays, opening-plays}
 use Rattle.player.proofs.play.Statement.{statement}
 use Rattle.player.proofs.play.Tie as tie
 

@@ -9,7 +9,8 @@ use lib.ListN.{length}
 use Rattle.line.specs.Line.{sizeOf}
 use Rattle.line.specs.Agrees.{Lawful}
 use Rattle.rules.specs.Lent.{lineOf}
-use Rattle.player.specs.Schedule.{wholeSteps, run}
+use Rattle.schedule.specs.Bytes.{wholeSteps}
+use Rattle.player.specs.Spoken.{run}
 use Rattle.player.specs.Printed.{printed}
 use Rattle.player.specs.Parts.{textBytes}
 use Rattle.player.proofs.Rest.{number-few, step-room, cut-room, Continues, none-played, all-played, one-cut}

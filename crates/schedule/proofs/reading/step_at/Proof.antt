@@ -1,7 +1,7 @@
 -- The two numbers are those of four bytes each.
 use borrow.Author.Needs.{needs}
-use Rattle.player.proofs.reading.step_at.Statement.{statement}
-use Rattle.player.proofs.reading.step_at.Tie as tie
+use Rattle.schedule.proofs.reading.step_at.Statement.{statement}
+use Rattle.schedule.proofs.reading.step_at.Tie as tie
 
 returns : tie.Need-returns
 returns c = rw (c .before .number-at .ensures, c .number-at2 .ensures)

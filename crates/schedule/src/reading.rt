@@ -1,19 +1,16 @@
-// A schedule's bytes: the header, a number of four bytes, a step of nine.
+// Reading a schedule: the header, a number of four bytes, a step of nine.
+use crate::LIMIT;
+use crate::Message;
 ghost use mathlib.Core.Path.{_≡_};
 ghost use Prim.Native.Nat.{_+_, _≤_, _<_};
 ghost use lib.ListN.{length};
-ghost use Rattle.player.specs.Schedule.{isLong, isHeader, numberIn, numberAt, stepAt, wholeSteps, isCut};
-ghost use Rattle.player.specs.Parts.{stepOf};
+ghost use Rattle.schedule.specs.Bytes.{headerBytes, stepBytes, isLong, isHeader, numberIn, numberAt, stepAt, wholeSteps, isCut};
+ghost use Rattle.schedule.specs.Messages.{stepOf};
 
-// A step as it is read.
-pub struct Asked {
-    pub code: u8,
-    pub a: u32,
-    pub b: u32,
-}
+// The bytes of the header, and of a step.
+const HEADER: usize = 8;
 
-// The longest schedule, in bytes.
-const LIMIT: usize = 64808;
+const STEP: usize = 9;
 
 pub fn is_long(input: &[u8]) -> bool
     ensures { λ r. ⌜ r ≡ isLong (now (input .entry)) ⌝ }
@@ -25,7 +22,7 @@ pub fn is_long(input: &[u8]) -> bool
 pub fn is_header(input: &[u8]) -> bool
     ensures { λ r. ⌜ r ≡ isHeader (now (input .entry)) ⌝ }
 {
-    if 8 <= input.len() {
+    if HEADER <= input.len() {
         let letters = (input[0] == b'L') & (input[1] == b'B') & (input[2] == b'Q');
         return letters & (input[3] == 0) & (input[4] == 1);
     }
@@ -46,34 +43,36 @@ pub fn number_in(p: u8, q: u8, r: u8, s: u8) -> u32
     ((wide(p) * 256 + wide(q)) * 256 + wide(r)) * 256 + wide(s)
 }
 
-fn number_at(input: &[u8], at: usize) -> u32
+// The number whose four bytes start at `at`.
+pub fn number_at(input: &[u8], at: usize) -> u32
     requires { ⌜ at + 4 ≤ length (now input) ⌝ }
     ensures { λ r. ⌜ r ≡ numberAt (now (input .entry)) at ⌝ }
 {
     number_in(input[at], input[at + 1], input[at + 2], input[at + 3])
 }
 
-pub fn step_at(input: &[u8], at: usize) -> Asked
-    requires { ⌜ at + 9 ≤ length (now input) ⌝ }
+// The step whose nine bytes start at `at`.
+pub fn step_at(input: &[u8], at: usize) -> Message
+    requires { ⌜ at + stepBytes ≤ length (now input) ⌝ }
     ensures { λ r. ⌜ stepOf r ≡ stepAt (now (input .entry)) at ⌝ }
 {
     let code = input[at];
     let a = number_at(input, at + 1);
     let b = number_at(input, at + 5);
-    Asked { code, a, b }
+    Message { code, a, b }
 }
 
 // How many whole steps follow the header, and whether bytes of one more do.
 pub fn whole_steps(input: &[u8]) -> usize
-    requires { ⌜ 8 ≤ length (now input) ⌝ }
+    requires { ⌜ headerBytes ≤ length (now input) ⌝ }
     ensures { λ r. ⌜ r ≡ wholeSteps (now (input .entry)) ⌝ }
 {
-    (input.len() - 8) / 9
+    (input.len() - HEADER) / STEP
 }
 
 pub fn is_cut(input: &[u8]) -> bool
-    requires { ⌜ 8 ≤ length (now input) ⌝ }
+    requires { ⌜ headerBytes ≤ length (now input) ⌝ }
     ensures { λ r. ⌜ r ≡ isCut (now (input .entry)) ⌝ }
 {
-    !((input.len() - 8) % 9 == 0)
+    !((input.len() - HEADER) % STEP == 0)
 }

@@ -1,9 +1,9 @@
 -- Eight bytes or more, of which the first five are the letters and the version.
 use borrow.Author.Needs.{needs}
 use borrow.Author.Tests.{le-leb, lt-leb}
-use Rattle.player.specs.Schedule.{isHeader}
-use Rattle.player.proofs.reading.is_header.Statement.{statement}
-use Rattle.player.proofs.reading.is_header.Tie as tie
+use Rattle.schedule.specs.Bytes.{isHeader}
+use Rattle.schedule.proofs.reading.is_header.Statement.{statement}
+use Rattle.schedule.proofs.reading.is_header.Tie as tie
 
 whole : tie.Need-returns
 unfolding isHeader
