@@ -11,10 +11,11 @@ use Rattle.line.specs.Check as C
 use Rattle.line.specs.Calls as Calls
 use Rattle.schedule.specs.Bytes as B
 use Rattle.player.specs.Spoken as S
+use Rattle.printing.specs.Text as T
 use Rattle.player.specs.Printed as P
 use Rattle.player.specs.Demands.{PlayedOnly}
 use Rattle.player.proofs.Demands.{played-only}
-use Rattle.player.specs.Cases.{ListingCases, HeaderCases, UnfitCases, CutCases, SizeCases, NumberCases, WordCases, DecimalCases, LimitCases}
+use Rattle.player.specs.Cases.{ListingCases, HeaderCases, UnfitCases, CutCases, SizeCases, NumberCases, WordCases, LimitCases}
 
 -- ---- what is computed with: to unfold one of these is to unfold all that it names
 
@@ -39,7 +40,7 @@ unfolding check Calls.step Calls.answers B.isHeader B.stepsFrom B.stepsOf S.numb
 schedule = tt
 
 print : Unit {0}
-unfolding schedule P.digits P.decimal P.lineText P.printed
+unfolding schedule T.digits T.decimal T.lineText P.printed
 print = tt
 
 -- ---- the cases
@@ -72,10 +73,6 @@ pub word-cases : WordCases
 unfolding print WordCases
 word-cases = refl
 
-pub decimal-cases : DecimalCases
-unfolding print DecimalCases
-decimal-cases = refl
-
 pub limit-cases : LimitCases
-unfolding P.digits P.decimal P.lineText P.printed PlayedOnly LimitCases
+unfolding T.digits T.decimal T.lineText P.printed PlayedOnly LimitCases
 limit-cases = (λ bs e. ap P.printed (played-only bs .0 (rw e tt)), λ bs e h. ap P.printed (played-only bs .1 (rw e tt) (rw h tt)))

@@ -14,9 +14,9 @@ use Rattle.rules.specs.Lent.{lineOf}
 use Rattle.engine.specs.Promises.{Steps}
 use Rattle.schedule.specs.Bytes.{stepAt, wholeSteps}
 use Rattle.schedule.proofs.Bytes.{placeOf}
+use Rattle.printing.specs.Writes.{Writes}
 use Rattle.player.specs.Spoken.{spoken}
 use Rattle.player.specs.Printed.{line}
-use Rattle.player.specs.Parts.{Writes}
 use Rattle.player.proofs.Rest.{Continues, one-played}
 use Rattle.player.proofs.Opened.{step-sound, step-line}
 

@@ -11,10 +11,12 @@ use Rattle.line.specs.Line.{Line, Outcome}
 use Rattle.line.specs.Calls.{step, answers}
 use Rattle.schedule.specs.Bytes.{limit, stepAt, wholeSteps, isCut}
 use Rattle.schedule.proofs.Bytes.{placeOf, stepsBehind, behind-none, behind-next, behind-all, steps-few, cut-few}
+use Rattle.printing.specs.Text.{numbersBelow, lineMost}
+use Rattle.printing.specs.Writes.{Writes}
+use Rattle.printing.proofs.Stores.{writes-more, writes-none}
 use Rattle.player.specs.Spoken.{Spoken, spoken, numbered, cutAt, cutShort, run}
 use Rattle.player.specs.Printed.{line, printed}
-use Rattle.player.specs.Parts.{textBytes, Writes}
-use Rattle.player.proofs.Stores.{writes-more, writes-none}
+use Rattle.player.specs.Parts.{textBytes}
 
 module _ (bs : List ℕ) where
   pub restOf : ℕ → Line → List Spoken
@@ -34,16 +36,16 @@ module _ (bs : List ℕ) where
 
   -- ---- how many steps, and the room that they have
 
-  module _ (short : length bs ≤ limit) (i at : ℕ) (most : at ≤ 25 * i) where
+  module _ (short : length bs ≤ limit) (i at : ℕ) (most : at ≤ lineMost * i) where
     -- 7,200 steps at most: four digits
-    pub number-few : (n : ℕ) → i ≤ wholeSteps bs → n ≡ suc i → n < 10000
+    pub number-few : (n : ℕ) → i ≤ wholeSteps bs → n ≡ suc i → n < numbersBelow
     number-few n h e = omega (arith, steps-few bs short)
 
-    pub step-room : i < wholeSteps bs → at + 25 ≤ textBytes
+    pub step-room : i < wholeSteps bs → at + lineMost ≤ textBytes
     step-room h = omega (arith, steps-few bs short)
 
     -- where a step is cut short, there are fewer whole ones than a schedule can have
-    pub cut-room : (b : Bool) → b ≡ isCut bs → b ≡ true → i ≡ wholeSteps bs → at + 25 ≤ textBytes
+    pub cut-room : (b : Bool) → b ≡ isCut bs → b ≡ true → i ≡ wholeSteps bs → at + lineMost ≤ textBytes
     cut-room b c t e = omega (arith, cut-few bs short b c t)
 
   -- ---- what is written, and what is left

@@ -8,7 +8,7 @@ use Prim.Native.String.{String}
 use lib.ListN.{length, take, replicate}
 use Rattle.words.specs.Words.{letters}
 use Rattle.schedule.specs.Bytes.{isHeader}
-use Rattle.player.specs.Printed.{decimal, text}
+use Rattle.player.specs.Printed.{text}
 
 pub record Case : Type 0 where
   pub bytes : List ℕ
@@ -138,12 +138,6 @@ WordCases =
     (prints (schedule 2 1 1 (order 1 2 (look 0 1 (claim 0 (fetch 0 (finish 0 (look 0 1 (get (put 0 (step 3 0 0 (step 255 0 0 (claim 0 []))))))))))))
     "1 WHOLE 2\n2 SEEN 0\n3 CLAIMED 0\n4 TOOK 2\n5 DONE 0\n6 NOTHING 0\n7 GOT 1\n8 FULL 0\n9 BADSTEP 0\n10 BADSTEP 0\n11 STAGE 0\n"
     ∷ [])
-
--- numbers in decimal
-unfoldable pub DecimalCases : Type 0
-DecimalCases =
-    map decimal (0 ∷ 1 ∷ 9 ∷ 10 ∷ 19 ∷ 99 ∷ 100 ∷ 101 ∷ 1000 ∷ 7200 ∷ 10203 ∷ 999999 ∷ 4294967295 ∷ [])
-    ≡ map letters ("0" ∷ "1" ∷ "9" ∷ "10" ∷ "19" ∷ "99" ∷ "100" ∷ "101" ∷ "1000" ∷ "7200" ∷ "10203" ∷ "999999" ∷ "4294967295" ∷ [])
 
 -- ---- the limit
 

@@ -12,7 +12,7 @@ use lib.ListN.{length}
 use Rattle.book.specs.Choice.{_≡ᵇ_}
 use Rattle.book.specs.Steps.{Step}
 use Rattle.book.proofs.Choice.{and-first}
-use Rattle.schedule.specs.Bytes.{limit, headerBytes, stepBytes, isHeader, stepAt, stepsFrom, wholeSteps, stepsOf, isCut}
+use Rattle.schedule.specs.Bytes.{limit, headerBytes, stepBytes, mostSteps, isHeader, stepAt, stepsFrom, wholeSteps, stepsOf, isCut}
 
 module _ (bs : List ℕ) where
   pub header-long : (h : Bool) → h ≡ isHeader bs → h ≡ true → headerBytes ≤ length bs
@@ -51,11 +51,11 @@ module _ (bs : List ℕ) where
 
   -- ---- how many there are
 
-  -- 7,200 at most, and fewer where one more is cut short
-  pub steps-few : length bs ≤ limit → wholeSteps bs ≤ 7200
+  -- and fewer than the most where one more is cut short
+  pub steps-few : length bs ≤ limit → wholeSteps bs ≤ mostSteps
   steps-few h = omega arith
 
-  pub cut-few : length bs ≤ limit → (b : Bool) → b ≡ isCut bs → b ≡ true → wholeSteps bs < 7200
+  pub cut-few : length bs ≤ limit → (b : Bool) → b ≡ isCut bs → b ≡ true → wholeSteps bs < mostSteps
   cut-few h b c t =
       let over = (length bs - headerBytes) % stepBytes in
       let some : over ≡ 0 → ⊥ = eqb-false over 0 (not-true (over ≡ᵇ 0) (sym c ∙ t)) in

@@ -19,6 +19,10 @@ headerBytes = 8
 abbrev pub stepBytes : ℕ
 stepBytes = 9
 
+-- how many steps the longest schedule has: 7,200
+abbrev pub mostSteps : ℕ
+mostSteps = (limit - headerBytes) / stepBytes
+
 -- ---- read
 
 -- the number in four bytes, high byte first

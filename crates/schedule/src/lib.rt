@@ -6,6 +6,13 @@ pub mod reading;
 // The longest schedule, in bytes.
 pub const LIMIT: usize = 64808;
 
+// The bytes of the header, and of a step, and how many steps the longest schedule has.
+pub const HEADER: usize = 8;
+
+pub const STEP: usize = 9;
+
+pub const STEPS: usize = (LIMIT - HEADER) / STEP;
+
 // Every message from a press is one step.
 pub struct Message {
     pub code: u8,

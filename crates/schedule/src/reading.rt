@@ -1,16 +1,13 @@
 // Reading a schedule: the header, a number of four bytes, a step of nine.
+use crate::HEADER;
 use crate::LIMIT;
 use crate::Message;
+use crate::STEP;
 ghost use mathlib.Core.Path.{_≡_};
 ghost use Prim.Native.Nat.{_+_, _≤_, _<_};
 ghost use lib.ListN.{length};
 ghost use Rattle.schedule.specs.Bytes.{headerBytes, stepBytes, isLong, isHeader, numberIn, numberAt, stepAt, wholeSteps, isCut};
 ghost use Rattle.schedule.specs.Messages.{stepOf};
-
-// The bytes of the header, and of a step.
-const HEADER: usize = 8;
-
-const STEP: usize = 9;
 
 pub fn is_long(input: &[u8]) -> bool
     ensures { λ r. ⌜ r ≡ isLong (now (input .entry)) ⌝ }
