@@ -1,8 +1,8 @@
 use Prim.Native.Nat.{_-_, _≤_}
 use borrow.Author.Needs.{needs}
 use lib.ListN.{length}
-use Rattle.shelf.proofs.line_end.Statement.{statement}
-use Rattle.shelf.proofs.line_end.Tie as tie
+use Rattle.runs.proofs.shelf.line_end.Statement.{statement}
+use Rattle.runs.proofs.shelf.line_end.Tie as tie
 
 abbrev Inv-loop : tie.InvT-loop
 Inv-loop shelf at i₀ i = (at ≤ i) × (i ≤ length shelf)

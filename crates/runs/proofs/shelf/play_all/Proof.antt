@@ -1,8 +1,8 @@
 use Prim.Native.Nat.{_-_, _≤_}
 use borrow.Author.Needs.{needs}
 use lib.ListN.{length}
-use Rattle.shelf.proofs.play_all.Statement.{statement}
-use Rattle.shelf.proofs.play_all.Tie as tie
+use Rattle.runs.proofs.shelf.play_all.Statement.{statement}
+use Rattle.runs.proofs.shelf.play_all.Tie as tie
 
 abbrev Inv-loop : tie.InvT-loop
 Inv-loop shelf at₀ at = at ≤ length shelf

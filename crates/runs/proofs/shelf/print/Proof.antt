@@ -2,8 +2,8 @@ use mathlib.Core.Path.{sym}
 use lib.Seq.{length-take-le}
 use borrow.Author.Needs.{needs}
 use Rattle.player.proofs.Unique.{plays-within}
-use Rattle.shelf.proofs.print.Statement.{statement}
-use Rattle.shelf.proofs.print.Tie as tie
+use Rattle.runs.proofs.shelf.print.Statement.{statement}
+use Rattle.runs.proofs.shelf.print.Tie as tie
 
 -- the text lies within its room
 within : tie.Need-array-share-prefix-out
