@@ -36,7 +36,7 @@ unfolding shared desks owner C.isCurrent C.deskHolds C.noClash C.isZeros C.holds
 check = tt
 
 schedule : Unit {0}
-unfolding check Calls.step Calls.answers B.isHeader B.stepsFrom B.stepsOf S.numbered S.cutShort S.run S.playedWith S.played
+unfolding check Calls.step Calls.answers B.isHeader B.stepsFrom B.stepsOf B.bytesOfAll S.numbered S.cutShort S.run S.playedWith S.played
 schedule = tt
 
 print : Unit {0}

@@ -34,13 +34,16 @@ lineText number word value = decimal number ++ (space ∷ (word ++ (space ∷ (d
 abbrev pub answerText : ℕ → Answer → List ℕ
 answerText number a = lineText number (letters ((said a) .word)) ((said a) .value)
 
--- ---- how long a line is: its number has four digits at most, its word eight letters, its value ten digits
+-- ---- how long a line is
 
+-- the number has four digits at most
 abbrev pub numbersBelow : ℕ
 numbersBelow = 10000
 
+-- the word has eight letters at most
 abbrev pub lettersMost : ℕ
 lettersMost = 8
 
+-- and the value ten digits: with two spaces and a newline
 abbrev pub lineMost : ℕ
 lineMost = 25

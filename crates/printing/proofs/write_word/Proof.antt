@@ -7,13 +7,14 @@ use Rattle.printing.proofs.Lines.{letters-short}
 use Rattle.printing.proofs.write_word.Statement.{statement}
 use Rattle.printing.proofs.write_word.Tie as tie
 
--- the start, what the letters leave, and the space
-abbrev start : tie.After-slice-known → tie.Start
-start c = c .before
-
+-- what the letters leave
 abbrev letters : tie.After-slice-known2 → tie.After-write-letters
 letters c = c .before .before
 
+abbrev start : tie.After-slice-known → tie.Start
+start c = c .before
+
+-- and the space
 abbrev gap : tie.After-slice-known3 → tie.After-write-byte
 gap c = c .before .before
 

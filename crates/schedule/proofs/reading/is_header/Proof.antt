@@ -5,9 +5,16 @@ use Rattle.schedule.specs.Bytes.{isHeader}
 use Rattle.schedule.proofs.reading.is_header.Statement.{statement}
 use Rattle.schedule.proofs.reading.is_header.Tie as tie
 
+-- where the letters are read, and then the version
+abbrev letters : tie.After-shared-slice-known2 → tie.Then1
+letters c = c .before .before
+
+abbrev version : tie.After-shared-slice-known5 → tie.After-shared-slice-known3
+version c = c .before .before
+
 whole : tie.Need-returns
 unfolding isHeader
-whole c = rw (le-leb _ _ (c .before .before .before .before .before .if1 .taken))
+whole c = rw (le-leb _ _ (letters (version c .before) .if1 .taken))
 
 short : tie.Need-returns-2
 unfolding isHeader
