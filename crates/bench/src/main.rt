@@ -20,6 +20,12 @@ const STEPS: u32 = 1000000;
 
 const NE: u16 = 64;
 
+// The entries of the largest line.
+const ENTRIES: usize = 4096;
+
+// Labels are below this.
+const LABELS: u32 = 1000000;
+
 const DESKS: u16 = 16;
 
 // The largest prime below 2^32.
@@ -97,7 +103,7 @@ fn in_cycle(i: u32, nb: u32) -> Message
         },
         _ => Message {
             code: PUT,
-            a: i % 1000000,
+            a: i % LABELS,
             b: 0,
         },
     }
@@ -111,7 +117,7 @@ fn ask(i: u32, nb: u32) -> Message
         return Message {
             code: ORDER,
             a: 0,
-            b: nb * 64 * 3 / 4 - 1,
+            b: nb * (NE as u32) * 3 / 4 - 1,
         };
     }
     in_cycle(i, nb)
@@ -212,8 +218,8 @@ fn say_times(nb: u16, full: u64, empty: u64, sum: u64) {
 fn measure(nb: u16)
     requires { ⌜ (1 ≤ nb) × (nb ≤ 64) ⌝ }
 {
-    let mut entries = [0u32; 4096];
-    let m = (nb as usize) * 64;
+    let mut entries = [0u32; ENTRIES];
+    let m = (nb as usize) * (NE as usize);
     let start = clock();
     let total = run(nb, &mut entries[..m]);
     let middle = clock();

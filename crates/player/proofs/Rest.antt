@@ -11,8 +11,8 @@ use Rattle.line.specs.Line.{Line, Outcome}
 use Rattle.line.specs.Calls.{step, answers}
 use Rattle.schedule.specs.Bytes.{limit, stepAt, wholeSteps, isCut}
 use Rattle.schedule.proofs.Bytes.{placeOf, stepsBehind, behind-none, behind-next, behind-all, steps-few, cut-few}
-use Rattle.printing.specs.Text.{numbersBelow, lineMost}
-use Rattle.printing.specs.Writes.{Writes}
+use Rattle.printing.specs.Text.{numbersBelow}
+use Rattle.printing.specs.Writes.{Writes, lineMost}
 use Rattle.printing.proofs.Stores.{writes-more, writes-none}
 use Rattle.player.specs.Spoken.{Spoken, spoken, numbered, cutAt, cutShort, run}
 use Rattle.player.specs.Printed.{line, printed}

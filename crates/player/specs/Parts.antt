@@ -8,7 +8,7 @@ use Rattle.book.specs.Choice.{if_then_else_, _<ᵇ_}
 use Rattle.line.specs.Line.{Line, sizeOf}
 use Rattle.line.specs.Agrees.{Lawful}
 use Rattle.schedule.specs.Bytes.{limit, headerBytes, mostSteps}
-use Rattle.printing.specs.Text.{lineMost}
+use Rattle.printing.specs.Writes.{lineMost}
 
 -- room for every text: a line for each step of the longest schedule
 abbrev pub textBytes : ℕ

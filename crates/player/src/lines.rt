@@ -5,8 +5,8 @@ use words::Letters;
 use words::spelt;
 ghost use Prim.Native.Nat.{_+_, _≤_, _<_};
 ghost use lib.ListN.{length};
-ghost use Rattle.printing.specs.Text.{lineText, numbersBelow, lettersMost, lineMost};
-ghost use Rattle.printing.specs.Writes.{Writes, lettersOf};
+ghost use Rattle.printing.specs.Text.{lineText, numbersBelow};
+ghost use Rattle.printing.specs.Writes.{Writes, lettersOf, lettersMost, lineMost};
 ghost use Rattle.player.specs.Spoken.{cutAt};
 ghost use Rattle.player.specs.Printed.{line};
 

@@ -14,8 +14,8 @@ use Rattle.words.specs.declared.Answer.the-variants.{Put, Got, Took, Whole, See
 use Rattle.words.specs.declared.Letters.{Letters}
 use Rattle.words.specs.Words.{refusal, said, letters, spelled}
 use Rattle.words.specs.Promises.{Valued, Worded}
-use Rattle.printing.specs.Text.{space, newline, digit, decimal, lineText, answerText, numbersBelow, lettersMost, lineMost}
-use Rattle.printing.specs.Writes.{Writes, lettersOf}
+use Rattle.printing.specs.Text.{space, newline, digit, decimal, lineText, answerText, numbersBelow}
+use Rattle.printing.specs.Writes.{Writes, lettersOf, lettersMost, lineMost}
 use Rattle.printing.proofs.Stores.{writes-more}
 use Rattle.printing.proofs.Decimals.{decimal-digit, decimal-more, decimal-short}
 

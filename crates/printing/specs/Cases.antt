@@ -6,7 +6,8 @@ use lib.ListN.{length}
 use Rattle.words.specs.declared.Answer.the-variants.{Got, Done, Refused}
 use Rattle.words.specs.declared.Refusal.the-variants.{Full, Notlabel}
 use Rattle.words.specs.Words.{letters}
-use Rattle.printing.specs.Text.{decimal, answerText, lineMost}
+use Rattle.printing.specs.Text.{decimal, answerText}
+use Rattle.printing.specs.Writes.{lineMost}
 
 -- numbers in decimal
 unfoldable pub DecimalCases : Type 0

@@ -34,16 +34,6 @@ lineText number word value = decimal number ++ (space ∷ (word ++ (space ∷ (d
 abbrev pub answerText : ℕ → Answer → List ℕ
 answerText number a = lineText number (letters ((said a) .word)) ((said a) .value)
 
--- ---- how long a line is
-
--- the number has four digits at most
+-- a line's number has four digits at most
 abbrev pub numbersBelow : ℕ
 numbersBelow = 10000
-
--- the word has eight letters at most
-abbrev pub lettersMost : ℕ
-lettersMost = 8
-
--- and the value ten digits: with two spaces and a newline
-abbrev pub lineMost : ℕ
-lineMost = 25

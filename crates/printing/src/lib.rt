@@ -11,8 +11,8 @@ ghost use mathlib.Core.Path.{_≡_};
 ghost use mathlib.Core.List.{_∷_, [], _++_};
 ghost use Prim.Native.Nat.{_+_, _≤_, _<_};
 ghost use lib.ListN.{length};
-ghost use Rattle.printing.specs.Text.{space, digit, decimal, lineText, answerText, numbersBelow, lettersMost, lineMost};
-ghost use Rattle.printing.specs.Writes.{Writes, lettersOf};
+ghost use Rattle.printing.specs.Text.{space, digit, decimal, lineText, answerText, numbersBelow};
+ghost use Rattle.printing.specs.Writes.{Writes, lettersOf, lettersMost, lineMost};
 
 // The longest line, in bytes: a number of four digits, a word of eight letters, a value of ten digits, two
 // spaces and a newline.

@@ -4,8 +4,7 @@ use Prim.Native.Nat.{ℕ, _+_, _-_, _≤_}
 use native.Mathlib.Omega.{arith}
 use borrow.Author.Needs.{needs}
 use lib.ListN.{length, take, length-set}
-use Rattle.printing.specs.Text.{lettersMost}
-use Rattle.printing.specs.Writes.{Writes}
+use Rattle.printing.specs.Writes.{Writes, lettersMost}
 use Rattle.printing.proofs.Stores.{writes-next}
 use Rattle.printing.proofs.write_letters.Statement.{statement}
 use Rattle.printing.proofs.write_letters.Tie as tie

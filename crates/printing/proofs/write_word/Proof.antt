@@ -1,7 +1,7 @@
 -- The letters, eight at most, and the space behind them.
 use native.Mathlib.Omega.{arith}
 use borrow.Author.Needs.{needs}
-use Rattle.printing.specs.Text.{lettersMost}
+use Rattle.printing.specs.Writes.{lettersMost}
 use Rattle.printing.proofs.Stores.{writes-more, writes-left}
 use Rattle.printing.proofs.Lines.{letters-short}
 use Rattle.printing.proofs.write_word.Statement.{statement}

@@ -10,7 +10,8 @@ use Rattle.line.specs.Line.{sizeOf}
 use Rattle.line.specs.Agrees.{Lawful}
 use Rattle.rules.specs.Lent.{lineOf}
 use Rattle.schedule.specs.Bytes.{wholeSteps}
-use Rattle.printing.specs.Text.{numbersBelow, lineMost}
+use Rattle.printing.specs.Text.{numbersBelow}
+use Rattle.printing.specs.Writes.{lineMost}
 use Rattle.player.specs.Spoken.{run}
 use Rattle.player.specs.Printed.{printed}
 use Rattle.player.specs.Parts.{textBytes}

@@ -42,11 +42,11 @@ unfit-told c = c .before .before
 abbrev asked : tie.After-play-steps-arg2 → tie.After-enum-told
 asked c = c .before .before
 
-abbrev played : tie.After-slice-known4 → tie.After-play-steps
-played c = c .before .before
+abbrev stepped : tie.After-slice-known4 → tie.After-play-steps
+stepped c = c .before .before
 
 abbrev back-in : tie.After-slice-known5 → tie.After-play-steps
-back-in c = played (c .before .before)
+back-in c = stepped (c .before .before)
 
 abbrev refused : tie.After-slice-known6 → tie.After-write-only
 refused c = c .before .before
