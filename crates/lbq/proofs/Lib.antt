@@ -1,9 +1,12 @@
+pub mod Calls
+pub mod Changing
+pub mod Crossing
+pub mod Given
+pub mod Lent
 pub mod Narrowed
 mod Parts
-pub mod Crossing
-mod Single
-mod Lent
-mod Reading
-mod Passing
-mod Replied
+pub mod Passing
+pub mod Reading
+pub mod Replied
+pub mod Single
 pub mod Unique

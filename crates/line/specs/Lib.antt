@@ -12,3 +12,4 @@ pub mod Samples
 pub mod Damaged
 pub mod Cases
 pub mod ClearingCases
+pub mod Numbers
