@@ -33,14 +33,14 @@ record-val d = LL.val B.the-type B′.the-laws d
 abbrev pub record-vals : Block → List Val
 record-vals d = record-val d ∷ []
 
-pub record-tells : Tells RB (Is RB) record-vals
-record-tells = LL.tells B.the-type B′.the-laws
-
 abbrev pub table-vals : List Block → List Val
 table-vals t = array-vals record-vals t
 
 abbrev pub table-val : List Block → Val
 table-val t = only (table-vals t)
+
+pub record-tells : Tells RB (Is RB) record-vals
+record-tells = LL.tells B.the-type B′.the-laws
 
 pub table-tells : Tells RT (Is RT) table-vals
 table-tells = array-tells RB record-vals record-tells 64
