@@ -26,10 +26,10 @@ use Rattle.lbq.proofs.Given.{Number, kept, narrowed, given, passed, dow
 use Rattle.lbq.proofs.Changing.{Calling}
 use Rattle.lbq.proofs.Replied.{opened, stepped, ordered}
 
-abbrev calling : (ns : List Number) (asked : Name) (Q : RattleType) (reply : Name) (f : Q .Denot → Reply) (does : Does (passed ns) Q) (promise : Does (given ns) R.the-row)
+abbrev calling : (ns : List Number) (called : Name) (Q : RattleType) (reply : Name) (f : Q .Denot → Reply) (does : Does (passed ns) Q) (promise : Does (given ns) R.the-row)
     → ((l m : Line) (x : Numbers (given ns)) (y : Q .Denot) → does l (down ns x) y m → promise l x (f y) m) → Calling
-calling ns asked Q reply f does promise keeps =
-    record { numbers = ns; asked = asked; Answer = Q; reply = reply; replies = f; does = does; promise = promise; keeps = keeps }
+calling ns called Q reply f does promise keeps =
+    record { numbers = ns; called = called; Answer = Q; reply = reply; replies = f; does = does; promise = promise; keeps = keeps }
 
 -- three numbers as a size, and as a step
 abbrev sizes : ℕ × (ℕ × (ℕ × Unit {0})) → Size

@@ -27,9 +27,9 @@ use denote.Ref.{MutRef}
 use denote.Slice.{MutSlice}
 use denote.Struct.Laws as LL
 use denote.Triple.Statement.{Triple}
-use denote.Triple.Table.{entered, cited}
 use Rattle.line.specs.Line.{Line}
 use Rattle.walk.proofs.Called.{lone-typed}
+use Rattle.walk.proofs.Entered.{proves, cites}
 use Rattle.walk.proofs.Numbers.{Numbers, ints, numbers, machine, typed}
 use Rattle.walk.proofs.Locals.{none, Addrs, env, cells, past, past-is, From, from-first, from-next, from-past, values, alloc-all, pass-all, free-all, free, from-at}
 use Rattle.portal.proofs.Changing.{Does, Changes}
@@ -45,7 +45,7 @@ use Rattle.lbq.proofs.Passing.{held, calls-passed, exits, Walk, meets}
 pub record Calling : Type 2 where
   pub numbers : List Number
   -- the portal's call, and the type of its answer; the function that makes the reply, and the reply
-  pub asked : Name
+  pub called : Name
   pub Answer : RattleType
   pub reply : Name
   pub replies : Answer .Denot → Reply
@@ -92,7 +92,7 @@ module _ (c : Calling) where
       (seq (assign (it 1) (addrOf (place 1 (deref (one RH) ∷ []))))
       (slice 2 (one RB) 2 3
       (slice 3 (tyInt w32) 4 5
-      (seq (call (c .asked) (copy (it 1) ∷ copy (it 3) ∷ copy (it 5) ∷ operands (c .numbers) 4 first) (it 0))
+      (seq (call (c .called) (copy (it 1) ∷ copy (it 3) ∷ copy (it 5) ∷ operands (c .numbers) 4 first) (it 0))
       (seq (call (c .reply) (copy (it 0) ∷ []) (place 0 [])) return)))))
 
   abbrev pub function : Fn
@@ -123,7 +123,7 @@ module _ (c : Calling) where
   -- ---- the walk
   module _ {M : Type 1} (𝓤 : URA M) (H : Heap 𝓤) (A : Atoms 𝓤) (W : Given 𝓤 H A) (makes : Makes 𝓤 H A (c .Answer) (Is (c .Answer))) (lawful : Lawful 𝓤 H A (c .Answer))
       (C : Calls 𝓤 H) (Λ : Loops 𝓤 H) (fm : FmC 𝓤 H (W .laws) C) (known : Known 𝓤 H A W C (c .numbers))
-      (known-asked : Triple 𝓤 (C (c .asked)) (Changes (passed (c .numbers)) (c .Answer) 𝓤 H A (c .does)))
+      (known-called : Triple 𝓤 (C (c .called)) (Changes (passed (c .numbers)) (c .Answer) 𝓤 H A (c .does)))
       (known-reply : Triple 𝓤 (C (c .reply)) (Single 𝓤 H A W (c .Answer) R.the-row (c .replies))) where
     walk : Walk 𝓤 H A W ws R.the-row (c .promise) (WpFn 𝓤 H C Λ function)
     walk κs qs x ns room room-e fit =
@@ -146,7 +146,7 @@ module _ (c : Calling) where
         (and-then ! (load ! (from ! (fld ! refl (stop !))) (look-in ! 13 (sub ! 1 refl (whole !)))) (no-more !))))
         (from-at ! (it-is bs cs _ 5) (stop !)) (init ! 1 refl (tt, (tt, (record { fits = room-e .0 }, tt)))) $
         -- the portal's call
-        move ! (21 ∷ 22 ∷ []) $ calls-passed ! fm (passed (c .numbers)) (c .Answer) (c .does) known-asked κs qs x ws ns (on κs (c .numbers) ns) fits
+        move ! (21 ∷ 22 ∷ []) $ calls-passed ! fm (passed (c .numbers)) (c .Answer) (c .does) known-called κs qs x ws ns (on κs (c .numbers) ns) fits
         (and-then ! (load ! (from-at ! (it-is bs cs _ 1) (stop !)) (look ! 10 refl)) (and-then ! (load ! (from-at ! (it-is bs cs _ 3) (stop !)) (look ! 6 refl))
         (and-then ! (load ! (from-at ! (it-is bs cs _ 5) (stop !)) (look ! 2 refl))
         (read-both κs ! 1 (c .numbers) 4 first bs cs (givens bs cs _ _ _ _ _) (mades bs cs _ _ _ _ _) ns refl))))
@@ -176,18 +176,20 @@ module _ (c : Calling) where
     known-all : (ns : List Number) → Cited ns → Known 𝓤 H (𝓖 .A) (givenOf 𝓤 H 𝓜 𝓖) (tables 𝓤 H 𝓜 𝓡 γ .C) ns
     known-all [] known = known
     known-all (kept w ∷ ns) known = known-all ns known
-    known-all (narrowed f ∷ ns) known = (cited 𝓤 H (Single 𝓤 H (𝓖 .A) (givenOf 𝓤 H 𝓜 𝓖) u32 (UInt (f .width)) (f .to)) 𝓜 𝓡 γ (f .name) (known .0 .0) (known .0 .1) (known .0 .2), known-all ns (known .1))
+    known-all (narrowed f ∷ ns) known =
+        let (_, is, met) = known .0 in
+        (cites 𝓤 H 𝓜 𝓡 γ (Single 𝓤 H (𝓖 .A) (givenOf 𝓤 H 𝓜 𝓖) u32 (UInt (f .width)) (f .to)) (f .name) is met, known-all ns (known .1))
 
     pub changes : Makes 𝓤 H (𝓖 .A) (c .Answer) (Is (c .Answer)) → Lawful 𝓤 H (𝓖 .A) (c .Answer)
         → Closed 𝓤 H (tables 𝓤 H 𝓜 𝓡 γ .C) (tables 𝓤 H 𝓜 𝓡 γ .Λ) k function → Cited (c .numbers)
-        → {asked : Routine} → γ (c .asked) ≡ asked → Triple 𝓤 (𝓡 .run asked) (Changes (passed (c .numbers)) (c .Answer) 𝓤 H (𝓖 .A) (c .does))
+        → {called : Routine} → γ (c .called) ≡ called → Triple 𝓤 (𝓡 .run called) (Changes (passed (c .numbers)) (c .Answer) 𝓤 H (𝓖 .A) (c .does))
         → {reply : Routine} → γ (c .reply) ≡ reply → Triple 𝓤 (𝓡 .run reply) (Single 𝓤 H (𝓖 .A) (givenOf 𝓤 H 𝓜 𝓖) (c .Answer) R.the-row (c .replies))
         → Triple 𝓤 (tables 𝓤 H 𝓜 𝓡 γ .C k) (Changes ws R.the-row 𝓤 H (𝓖 .A) (c .promise))
     unfolding tablesOf
-    changes makes lawful closed narrow {asked} is-asked known-asked {reply} is-reply known-reply =
+    changes makes lawful closed narrow is-called known-called is-reply known-reply =
         let A = 𝓖 .A in let W = givenOf 𝓤 H 𝓜 𝓖 in let 𝓣 = tablesOf 𝓤 H 𝓜 (tables 𝓤 H 𝓜 𝓡 γ) in
-        entered 𝓤 H (Changes ws R.the-row 𝓤 H A (c .promise)) (tables 𝓤 H 𝓜 𝓡 γ .C) (tables 𝓤 H 𝓜 𝓡 γ .Λ) k function closed
+        proves 𝓤 H 𝓜 𝓡 γ (Changes ws R.the-row 𝓤 H A (c .promise)) k function closed
         (meets 𝓤 H A W ws R.the-row (c .promise) (WpFn 𝓤 H (𝓣 .C) (𝓣 .Λ) function) (WpFn-mono 𝓤 H (W .laws) 𝓣 function)
         (walk 𝓤 H A W makes lawful (𝓣 .C) (𝓣 .Λ) (fmOf 𝓤 H (W .laws) 𝓣) (known-all (c .numbers) narrow)
-        (cited 𝓤 H (Changes (passed (c .numbers)) (c .Answer) 𝓤 H A (c .does)) 𝓜 𝓡 γ (c .asked) asked is-asked known-asked)
-        (cited 𝓤 H (Single 𝓤 H A W (c .Answer) R.the-row (c .replies)) 𝓜 𝓡 γ (c .reply) reply is-reply known-reply)))
+        (cites 𝓤 H 𝓜 𝓡 γ (Changes (passed (c .numbers)) (c .Answer) 𝓤 H A (c .does)) (c .called) is-called known-called)
+        (cites 𝓤 H 𝓜 𝓡 γ (Single 𝓤 H A W (c .Answer) R.the-row (c .replies)) (c .reply) is-reply known-reply)))

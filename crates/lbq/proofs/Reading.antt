@@ -32,10 +32,10 @@ use denote.Triple.Entry.{onEntry}
 use denote.Triple.Statement.{Triple}
 use denote.Triple.Call.{calls-at}
 use denote.Triple.Clauses.{ensured, lasts}
-use denote.Triple.Table.{entered, cited}
 use denote.Triple.Walked.{says, walkOf, Walks, ends-at, walked, walk-meets}
 use Rattle.line.specs.Line.{Line}
 use Rattle.walk.proofs.Called.{lone-typed, came-with}
+use Rattle.walk.proofs.Entered.{proves, cites}
 use Rattle.walk.proofs.Locals.{free}
 use Rattle.portal.proofs.Rows.{RH, RB}
 use Rattle.portal.proofs.Reading.{reader, ended, clauses, stayed, go-away, Reads}
@@ -132,7 +132,7 @@ module _ {M : Type 1} (𝓤 : URA M) (H : Heap 𝓤) (𝓜 : Model 𝓤 H) (𝓖
   unfolding tablesOf
   reads called reply {call-routine} {reply-routine} closed is-called known-called is-reply known-reply =
       let A = 𝓖 .A in let W = givenOf 𝓤 H 𝓜 𝓖 in
-      entered 𝓤 H (Reads 𝓤 R H A P) (tables 𝓤 H 𝓜 𝓡 γ .C) (tables 𝓤 H 𝓜 𝓡 γ .Λ) k (function Q R called reply) closed
+      proves 𝓤 H 𝓜 𝓡 γ (Reads 𝓤 R H A P) k (function Q R called reply) closed
       (meets 𝓤 H A W Q R makes-q lawful-q makes lawful C f P keeps called reply (tablesOf 𝓤 H 𝓜 (tables 𝓤 H 𝓜 𝓡 γ))
-      (cited 𝓤 H (Reads 𝓤 Q H A C) 𝓜 𝓡 γ called call-routine is-called known-called)
-      (cited 𝓤 H (Single 𝓤 H A W Q R f) 𝓜 𝓡 γ reply reply-routine is-reply known-reply))
+      (cites 𝓤 H 𝓜 𝓡 γ (Reads 𝓤 Q H A C) called is-called known-called)
+      (cites 𝓤 H 𝓜 𝓡 γ (Single 𝓤 H A W Q R f) reply is-reply known-reply))

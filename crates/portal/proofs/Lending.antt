@@ -38,7 +38,6 @@ use denote.Signature.{plain}
 use denote.Triple.Entry.{onEntry, Args, Vals}
 use denote.Triple.Statement.{Contract, Triple}
 use denote.Triple.Clauses.{Ended, Clauses}
-use denote.Triple.Table.{entered, cited}
 use denote.Triple.Walked.{says, Stays, stay-ref, gave-slice, walkOf, goes-ref, goes-gave-slice, Walks, ends-at, walked, walk-meets}
 use Rattle.line.specs.declared.Head.{Head}
 use Rattle.line.specs.declared.Block.{Block}
@@ -50,6 +49,7 @@ use Rattle.table.proofs.store.Symbol as store-def
 use Rattle.table.proofs.store.Symbol.{name as #table·store}
 use Rattle.table.proofs.store.Met as store-thm
 use Rattle.walk.proofs.Again.{at-list}
+use Rattle.walk.proofs.Entered.{proves, cites}
 use Rattle.walk.proofs.Numbers.{Numbers, Fit, ints, machine, stays, rows, numbers, spells, tells, vals, lasts, had, on}
 use Rattle.walk.proofs.Numbers.{numbers-args, machine-on, fit-on, stays-fit, typed, go-away, gone}
 use Rattle.walk.proofs.Locals.{none, Addrs, env, past, From, from-first, from-next, past-is, alloc-all, pass-all, free-all, free, from-at, opds-are, read-all}
@@ -263,8 +263,8 @@ module _ (c : Calling) {M : Type 1} (𝓤 : URA M) (H : Heap 𝓤) where
     unfolding tablesOf
     lends closed is-load is-store {core} is-core known-core =
         let A = 𝓖 .A in let W = givenOf 𝓤 H 𝓜 𝓖 in
-        entered 𝓤 H (Does-it A) (tables 𝓤 H 𝓜 𝓡 γ .C) (tables 𝓤 H 𝓜 𝓡 γ .Λ) k (function c) closed
+        proves 𝓤 H 𝓜 𝓡 γ (Does-it A) k (function c) closed
         (meets A W (𝓜 .mem) (𝓡 .run) (tablesOf 𝓤 H 𝓜 (tables 𝓤 H 𝓜 𝓡 γ))
-        (cited 𝓤 H (Load 𝓤 H A W (𝓜 .mem) (𝓡 .run)) 𝓜 𝓡 γ #table·load load-def.routine is-load (load-thm.met 𝓤 H 𝓜 𝓖 𝓡))
-        (cited 𝓤 H (Core c 𝓤 H A W) 𝓜 𝓡 γ (c .core) core is-core known-core)
-        (cited 𝓤 H (Store 𝓤 H A W (𝓜 .mem) (𝓡 .run)) 𝓜 𝓡 γ #table·store store-def.routine is-store (store-thm.met 𝓤 H 𝓜 𝓖 𝓡)))
+        (cites 𝓤 H 𝓜 𝓡 γ (Load 𝓤 H A W (𝓜 .mem) (𝓡 .run)) #table·load is-load (load-thm.met 𝓤 H 𝓜 𝓖 𝓡))
+        (cites 𝓤 H 𝓜 𝓡 γ (Core c 𝓤 H A W) (c .core) is-core known-core)
+        (cites 𝓤 H 𝓜 𝓡 γ (Store 𝓤 H A W (𝓜 .mem) (𝓡 .run)) #table·store is-store (store-thm.met 𝓤 H 𝓜 𝓖 𝓡)))

@@ -39,7 +39,6 @@ use denote.Triple.Spec.{tripleOf}
 use denote.Triple.Statement.{Contract, Triple}
 use denote.Triple.Call.{calls-at}
 use denote.Triple.Clauses.{Ended, Clauses, closing, ensured, lasts}
-use denote.Triple.Table.{entered, cited}
 use denote.Triple.Walked.{says, Stays, stay-dropped, AllGo, walkOf, goes-dropped, Walks, ends-at, walked, walk-meets}
 use denote.Exit.{yes}
 use Rattle.line.specs.declared.Block.{Block}
@@ -52,6 +51,7 @@ use Rattle.table.proofs.load.Symbol as load-def
 use Rattle.table.proofs.load.Symbol.{name as #table·load}
 use Rattle.table.proofs.load.Met as load-thm
 use Rattle.walk.proofs.Called.{came, came-with, lone-typed}
+use Rattle.walk.proofs.Entered.{proves, cites}
 use Rattle.portal.specs.Promises.{lent}
 use Rattle.portal.proofs.Rows.{RH, RB, RT, head-vals, head-tells, head-makes, table-makes, head-lawful, table-lawful}
 use Rattle.portal.proofs.Loading.{Load, load-said, to-load, goes-load}
@@ -257,7 +257,7 @@ module _ {M : Type 1} (𝓤 : URA M) (H : Heap 𝓤) (𝓜 : Model 𝓤 H) (𝓖
   unfolding tablesOf
   reads core {routine} closed is-load is-core known-core =
       let A = 𝓖 .A in let W = givenOf 𝓤 H 𝓜 𝓖 in
-      entered 𝓤 H (Reads 𝓤 R H A D) (tables 𝓤 H 𝓜 𝓡 γ .C) (tables 𝓤 H 𝓜 𝓡 γ .Λ) k (function R core) closed
+      proves 𝓤 H 𝓜 𝓡 γ (Reads 𝓤 R H A D) k (function R core) closed
       (meets 𝓤 H A W (𝓜 .mem) (𝓡 .run) R makes lawful C D keeps core (tablesOf 𝓤 H 𝓜 (tables 𝓤 H 𝓜 𝓡 γ))
-      (cited 𝓤 H (Load 𝓤 H A W (𝓜 .mem) (𝓡 .run)) 𝓜 𝓡 γ #table·load load-def.routine is-load (load-thm.met 𝓤 H 𝓜 𝓖 𝓡))
-      (cited 𝓤 H (Core 𝓤 H A W (𝓜 .mem) (𝓡 .run) R C) 𝓜 𝓡 γ core routine is-core known-core))
+      (cites 𝓤 H 𝓜 𝓡 γ (Load 𝓤 H A W (𝓜 .mem) (𝓡 .run)) #table·load is-load (load-thm.met 𝓤 H 𝓜 𝓖 𝓡))
+      (cites 𝓤 H 𝓜 𝓡 γ (Core 𝓤 H A W (𝓜 .mem) (𝓡 .run) R C) core is-core known-core))

@@ -188,11 +188,9 @@ module _ {M : Type 1} (𝓤 : URA M) (H : Heap 𝓤) (A : Atoms 𝓤) (W : Given
           land ! (from ! (stop !)) (init ! 12 refl (table-lawful 𝓤 H A W .typed t _ (is .0) .0)) $
           assigns ! (of-opd ! (load ! (from ! (stop !)) (look ! 12 refl))) (from ! (stop !)) (init ! 18 refl (table-lawful 𝓤 H A W .typed t _ (is .0) .0)) $
           forget ! 12 refl $
-          assigns ! (of-opd ! (load ! (from ! (fld ! refl (stop !))) (look-in ! 20 (sub ! 1 refl (whole !))))) (from ! (stop !))
-          (init ! 10 refl (tt, record { fits = room .0 })) $
+          assigns ! (of-opd ! (load ! (from ! (fld ! refl (stop !))) (look-in ! 20 (sub ! 1 refl (whole !))))) (from ! (stop !)) (init ! 10 refl (tt, record { fits = room .0 })) $
           calls-most 𝓤 H A W at-mem run ! fm known-most (length ys) (room .0) (and-then ! (load ! (from ! (stop !)) (look ! 11 refl)) (no-more !)) (λ n n-fits least.
-          land ! (from ! (stop !)) (init ! 16 refl (tt, record { fits = n-fits })) $
-          assigns ! (of-opd ! (lit ! tt)) (from ! (stop !)) (init ! 14 refl (tt, record { fits = lit< tt })) $
+          land ! (from ! (stop !)) (init ! 16 refl (tt, record { fits = n-fits })) $ assigns ! (of-opd ! (lit ! tt)) (from ! (stop !)) (init ! 14 refl (tt, record { fits = lit< tt })) $
           -- the token and the slice, and the local table as a row
           move ! (25 ∷ []) $ fsplit ! $ move ! (1 ∷ []) $ drop ! $ move ! (25 ∷ []) $ split ! $ move ! (1 ∷ []) $ drop ! $ move ! (20 ∷ []) $
           use1 W (‵ (row RB fullShare t l₂ 0)) (row-out RB record-vals 𝓤 H A W (record-makes 𝓤 H A W) 64 t l₂ tt w (is .0)) $

@@ -195,11 +195,9 @@ module _ {M : Type 1} (𝓤 : URA M) (H : Heap 𝓤) (A : Atoms 𝓤) (W : Given
           pass1 ! (init ! 26 refl (tt, (tt, (record { fits = room .0 }, tt)))) $ pass1 ! (init ! 24 refl (table-lawful 𝓤 H A W .typed t _ is-t .0)) $ pass0 ! $
           -- [local i at 28 − 2i; 30 the token; 31 what table and t own]
           assigns ! (of-opd ! (load ! (from ! (stop !)) (look ! 24 refl))) (from ! (stop !)) (init ! 22 refl (table-lawful 𝓤 H A W .typed t _ is-t .0)) $
-          assigns ! (of-opd ! (load ! (from ! (fld ! refl (stop !))) (look-in ! 26 (sub ! 1 refl (whole !))))) (from ! (stop !))
-          (init ! 16 refl (tt, record { fits = room .0 })) $
+          assigns ! (of-opd ! (load ! (from ! (fld ! refl (stop !))) (look-in ! 26 (sub ! 1 refl (whole !))))) (from ! (stop !)) (init ! 16 refl (tt, record { fits = room .0 })) $
           calls-most 𝓤 H A W at-mem run ! fm known-most (length ys) (room .0) (and-then ! (load ! (from ! (stop !)) (look ! 17 refl)) (no-more !)) (λ n n-fits least.
-          land ! (from ! (stop !)) (init ! 20 refl (tt, record { fits = n-fits })) $
-          assigns ! (of-opd ! (lit ! tt)) (from ! (stop !)) (init ! 18 refl (tt, record { fits = lit< tt })) $
+          land ! (from ! (stop !)) (init ! 20 refl (tt, record { fits = n-fits })) $ assigns ! (of-opd ! (lit ! tt)) (from ! (stop !)) (init ! 18 refl (tt, record { fits = lit< tt })) $
           -- the token and the lent table, and the local table as a row
           move ! (30 ∷ []) $ split ! $ move ! (1 ∷ []) $ drop ! $ move ! (31 ∷ []) $ fsplit ! $ move ! (1 ∷ []) $ drop ! $ move ! (24 ∷ []) $
           use1 W (‵ (row RB fullShare t l₃ 0)) (row-out RB record-vals 𝓤 H A W (record-makes 𝓤 H A W) 64 t l₃ tt (table-val t) is-t) $
