@@ -1,4 +1,5 @@
--- The three calls that may change the line, each by its numbers, the portal's call, its reply, and the promises of both.
+-- The three calls that may change the line, each by its numbers, the portal's call, its reply, and the promises of
+-- both.
 use mathlib.Core.List.{List, [], _∷_}
 use Prim.Native.Nat.{ℕ}
 use mir.Syntax.{Name, w8, w16, w32}

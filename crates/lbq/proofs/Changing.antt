@@ -1,6 +1,6 @@
--- The calls that may change the line, by one walk of their MIR: numbers are narrowed, what was lent is passed on to the portal's
--- call, and a reply is made of its answer. They differ in their numbers, in the portal's call and the type of its answer, in the
--- reply, and in what is promised.
+-- The calls that may change the line, by one walk of their MIR: numbers are narrowed, what was lent is passed on to the
+-- portal's call, and a reply is made of its answer. They differ in their numbers, in the portal's call and the type of
+-- its answer, in the reply, and in what is promised.
 -- Assumes nothing.
 use mathlib.Core.Path.{_≡_, refl, sym, subst, _∙_}
 use mathlib.Core.List.{List, [], _∷_, _++_}
@@ -62,8 +62,8 @@ module _ (c : Calling) where
   abbrev ts : List Width
   ts = made (c .numbers)
 
-  -- ---- the code. _0 is the reply; _1, _2, _3 head, table, entries; then the numbers, the narrowed ones, the portal's answer,
-  -- and head, table and entries as they are passed on, table and entries each as a pointer and then as a slice
+  -- ---- the code. _0 is the reply; _1, _2, _3 head, table, entries; then the numbers, the narrowed ones, the portal's
+  -- answer, and head, table and entries as they are passed on, the last two each as a pointer and then as a slice
   abbrev one : RattleType → Ty
   one R = lone (R .mir)
 
@@ -135,7 +135,8 @@ module _ (c : Calling) where
         pass1 ! (init ! 14 refl (tt, (tt, (record { fits = room-e .0 }, tt)))) $ move ! (13 ∷ []) $ pass-all ! (ints ws) bs vs are $ pass0 ! $
         -- the numbers are narrowed
         move ! (0 ∷ 13 ∷ []) $ narrow-all κs ! fm (c .numbers) known 4 first bs cs (givens bs cs _ _ _ _ _) (mades bs cs _ _ _ _ _) ns fit (λ fits are-new. fjoin ! $
-        -- [0 all numbers; the j-th of the others at 11 − 2j; local i at 19 − 2i; 21 the tokens; 22 what was lent]: head, table and entries
+        -- [0 all numbers; the j-th of the others at 11 − 2j; local i at 19 − 2i; 21 the tokens; 22 what was lent]:
+        -- head, table and entries
         assigns ! (addr ! (from ! (hop ! (look ! 17 refl) (stop !)))) (from-at ! (it-is bs cs _ 1) (stop !)) (init ! 9 refl (tt, tt)) $
         assigns ! (addr ! (from ! (fld ! refl (hop ! (look-in ! 15 (sub ! 0 refl (whole !))) (stop !))))) (from-at ! (it-is bs cs _ 2) (stop !)) (init ! 7 refl (tt, tt)) $
         assigns ! (agg ! (and-then ! (load ! (from-at ! (it-is bs cs _ 2) (stop !)) (look ! 7 refl))
@@ -151,7 +152,8 @@ module _ (c : Calling) where
         (and-then ! (load ! (from-at ! (it-is bs cs _ 5) (stop !)) (look ! 2 refl))
         (read-both κs ! 1 (c .numbers) 4 first bs cs (givens bs cs _ _ _ _ _) (mades bs cs _ _ _ _ _) ns refl))))
         (λ w₁ y m is-y said long. land ! (from-at ! (it-is bs cs _ 0) (stop !)) (init ! 13 refl (lone-typed (c .Answer .mir) w₁ (lawful .typed y _ is-y))) $
-        -- [0 the tokens; 1 what says the last line; 2 all numbers; the j-th of the others at 13 − 2j; local i at 21 − 2i]: the reply
+        -- [0 the tokens; 1 what says the last line; 2 all numbers; the j-th of the others at 13 − 2j; local i at
+        -- 21 − 2i]: the reply
         calls-single ! fm (c .Answer) R.the-row (c .replies) makes known-reply y w₁ is-y
         (and-then ! (load ! (from-at ! (it-is bs cs _ 0) (stop !)) (look ! 14 refl)) (no-more !)) (λ w r is told.
         land ! (from ! (stop !)) (init ! 21 refl (LL.lawful R.the-type R′.the-laws 𝓤 H A W .typed r _ is .0)) $

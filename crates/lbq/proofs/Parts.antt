@@ -1,5 +1,5 @@
--- A reply from its parts. In an arm the answer is known to be one case: what is promised of that case is promised of the
--- answer. Where a part is told by a function, what that function promises makes the reply.
+-- A reply from its parts. In an arm the answer is known to be one case: what is promised of that case is promised of
+-- the answer. Where a part is told by a function, what that function promises makes the reply.
 use mathlib.Core.Path.{_≡_, refl, subst⁻¹}
 use Prim.Native.Nat.{ℕ}
 use Rattle.words.specs.declared.Answer.{Answer}

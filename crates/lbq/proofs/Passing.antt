@@ -1,6 +1,6 @@
--- The calls that may change the line pass on what was lent: head, table and entries are given up to the portal's call, which
--- says what is there afterwards, and a reply is made of its answer. Here is the portal's call, with any numbers, as a step of a
--- walk: that of what was lent at entry it has what it asks, and what it says. And how such a walk ends.
+-- The calls that may change the line pass on what was lent: head, table and entries are given up to the portal's call,
+-- which says what is there afterwards, and a reply is made of its answer. Here is the portal's call, with any numbers,
+-- as a step of a walk: that of what was lent at entry it has what it asks, and what it says. And how such a walk ends.
 -- Assumes nothing.
 use mathlib.Core.Path.{_≡_}
 use mathlib.Core.List.{List, [], _∷_}
@@ -157,7 +157,8 @@ module _ {M : Type 1} (𝓤 : URA M) (H : Heap 𝓤) (A : Atoms 𝓤) (W : Given
         (λ κs qs bounds a g are. via 𝓤 _ (fst∗ 𝓤 _ (emp 𝓤))
         (walk κs qs (record { head = a .0; table = a .1 .0; entries = a .1 .1 .0 }) (a .1 .1 .1) (are .1 .0 .0 .1) (are .1 .1 .0 .0 .1) (are .1 .1 .1))))
 
--- ---- the portal's call as a step of a walk: what was lent goes, its answer r has the machine value w, and the last line is z
+-- ---- the portal's call as a step of a walk: what was lent goes, its answer r has the machine value w, and z is the
+-- last line
 
 module _ {M : Type 1} {𝓤 : URA M} {H : Heap 𝓤} {A : Atoms 𝓤} {K : Type 0} {W : Given 𝓤 H A} {Γ : List (Item 𝓤)} {E : Env 𝓤 H} {F : Calls 𝓤 H} {Λ : Loops 𝓤 H}
     {n : Name} {os : List Operand} {d : Place} {rest : Body} {q : Goal-post 𝓤 H} where

@@ -1,6 +1,6 @@
--- The two calls that change nothing, by one walk of their MIR: what was lent goes to the portal's call as it is, and a reply
--- is made of its answer. They differ in the names of both functions, in the types of answer and reply, Q and R, in the reply f of
--- the answer, and in what is promised: C by the portal of its answer, P of the reply.
+-- The two calls that change nothing, by one walk of their MIR: what was lent goes to the portal's call as it is, and a
+-- reply is made of its answer. They differ in the names of both functions, in the types of answer and reply, Q and R,
+-- in the reply f of the answer, and in what is promised: C by the portal of its answer, P of the reply.
 -- Assumes nothing.
 use mathlib.Core.Path.{_≡_, refl}
 use mathlib.Core.List.{[], _∷_}

@@ -1,5 +1,5 @@
--- From the portal's call to the exported one: what the portal tells at the narrowed numbers, and the reply that is made of it, are
--- what is promised at the numbers as they were given.
+-- From the portal's call to the exported one: what the portal tells at the narrowed numbers, and the reply that is made
+-- of it, are what is promised at the numbers as they were given.
 use mathlib.Core.Path.{ap, _∙_}
 use Prim.Native.Nat.{ℕ}
 use Rattle.words.specs.declared.Answer.{Answer}

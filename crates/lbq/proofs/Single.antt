@@ -1,5 +1,5 @@
--- A call of a covered function that takes one thing by value and gives another, f of it: a narrowing, or a reply. A walk
--- hands over what it has, and is told the result.
+-- A call of a covered function that takes one thing by value and gives another, f of it: a narrowing, or a reply. A
+-- walk hands over what it has, and is told the result.
 -- Assumes nothing.
 use mathlib.Core.Path.{_≡_, refl, sym, ap, subst, _∙_}
 use mathlib.Core.List.{List, [], _∷_}

@@ -1,6 +1,6 @@
--- What each call promises: its whole outcome, refusals included, as one equation with the definitions of the line, at the
--- numbers as they were given. What was lent is a line, and so is what is there afterwards; the reply is made of what the
--- portal's promises tell of the answer.
+-- What each call promises: its whole outcome, refusals included, as one equation with the definitions of the line, at
+-- the numbers as they were given. What was lent is a line, and so is what is there afterwards; the reply is made of
+-- what the portal's promises tell of the answer.
 use mathlib.Core.Path.{_≡_}
 use Prim.Native.Nat.{ℕ}
 use Rattle.book.specs.Sizes.{Size}

@@ -1,5 +1,6 @@
--- What opening, the check and the survey say: the paper's number, or 0 where nothing is refused, and the values of each case.
--- `said` of words does the same for the answers of a step and of an order. The promises of every call use these definitions.
+-- What opening, the check and the survey say: the paper's number, or 0 where nothing is refused, and the values of each
+-- case. `said` of words does the same for the answers of a step and of an order. The promises of every call use these
+-- definitions.
 use Prim.Native.Nat.{ℕ}
 use Rattle.words.specs.declared.Refusal.{Refusal}
 use Rattle.words.specs.declared.Refusal.the-variants.{Unfit, Damaged}

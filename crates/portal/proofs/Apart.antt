@@ -1,5 +1,5 @@
--- No two answers say the same: what is said of an answer tells which it is. So a promise that is an equation of what is said
--- fixes the answer itself.
+-- No two answers say the same: what is said of an answer tells which it is. So a promise that is an equation of what is
+-- said fixes the answer itself.
 use mathlib.Core.Path.{_≡_, refl, sym, ap, _∙_}
 use Prim.Native.Nat.{ℕ, _-_}
 use lib.ListN.{getD}

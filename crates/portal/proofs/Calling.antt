@@ -81,9 +81,9 @@ module _ (c : Calling) where
     ensures = λ _ r end. fact 𝓤 (c .Says (a .0) (a .1 .0) (a .1 .1 .0) (a .1 .1 .1 .0 .now) (numbers 1 κs (c .widths) (a .1 .1 .1 .1)) r (end .1 .1 .1 .0 .now));
   }
 
-  -- ---- code. The locals are the answer; the parameters; `n`, `records`, `h`, `r` and `after`; and what the compiler adds:
-  -- the table as it is lent to `load`, the entries as they are lent to the core, what `store` gives back, and the table as
-  -- it is lent to `store`, each of the three lent ones as a pointer and then as a slice
+  -- ---- code. The locals are the answer; the parameters; `n`, `records`, `h`, `r` and `after`; and what the compiler
+  -- adds: the table as it is lent to `load`, the entries as they are lent to the core, what `store` gives back, and the
+  -- table as it is lent to `store`, each of the three lent ones as a pointer and then as a slice
   abbrev one : RattleType → Ty
   one R = lone (R .mir)
 

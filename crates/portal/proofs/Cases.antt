@@ -1,4 +1,5 @@
--- The cases of specs/Cases.antt. What is allowed is computed; a wrong outcome differs from it in a number, so it is not allowed.
+-- The cases of specs/Cases.antt. What is allowed is computed; a wrong outcome differs from it in a number, so it is not
+-- allowed.
 use mathlib.Core.Path.{_≡_, refl, sym, ap, subst, _∙_}
 use mathlib.Core.Bool.{not}
 use Prim.Native.Nat.{ℕ}
@@ -97,5 +98,8 @@ unfolding check L.lookStep L.deskDoes L.deskStep seenFrom maskOf lowestFrom view
 survey-allowed = refl
 
 pub survey-case : SurveyCase
-survey-case =
-    record { allowed = survey-allowed; not-invented = differs (λ (s : SurveySaid). s .count) survey-allowed tt; not-refused = differs (λ (s : SurveySaid). s .number) survey-allowed tt }
+survey-case = record {
+  allowed = survey-allowed;
+  not-invented = differs (λ (s : SurveySaid). s .count) survey-allowed tt;
+  not-refused = differs (λ (s : SurveySaid). s .number) survey-allowed tt;
+}

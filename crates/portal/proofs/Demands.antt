@@ -1,5 +1,6 @@
--- Each demand holds of whatever outcomes the promises allow. A promise is one equation with a definition of the line, so a theorem
--- about the definition is one about the outcome; and a run of calls from opening is a run of the line from `opened`.
+-- Each demand holds of whatever outcomes the promises allow. A promise is one equation with a definition of the line,
+-- so a theorem about the definition is one about the outcome; and a run of calls from opening is a run of the line from
+-- `opened`.
 use mathlib.Core.Path.{_≡_, refl, sym, ap, subst, _∙_}
 use mathlib.Core.Logic.{_↔_}
 use mathlib.Core.List.{List, [], _∷_, map}

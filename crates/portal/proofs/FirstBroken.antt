@@ -1,5 +1,5 @@
--- The first broken rule is one only, so the check names it: where a rule is the first that is broken, its place and its number
--- are what the check answers.
+-- The first broken rule is one only, so the check names it: where a rule is the first that is broken, its place and its
+-- number are what the check answers.
 use mathlib.Core.Path.{_≡_, refl, sym, ap, ap₂, subst, _∙_}
 use mathlib.Core.List.{List, [], _∷_, _++_}
 use Prim.Native.Nat.{ℕ}

@@ -196,8 +196,8 @@ module _ (c : Calling) {M : Type 1} (𝓤 : URA M) (H : Heap 𝓤) (A : Atoms �
         (λ w₂ r is-r fs said.
         land ! (from-at ! (it bs _ 3) (stop !)) (init ! 25 refl (lawful R 𝓤 H A W .typed r _ is-r .0)) $
         rewrite ! 25 (λ (z : Val). ‵ (fat fullShare (lone (RS R .mir)) m₃ 0 z)) (ap only (val-is R r w₂ is-r)) refl $
-        -- [0 κ₂'s token; 1 the entries' last numbers; 2 table; 3 κ₁'s token; 4 the head's cell; 5 its open borrow; 6 obs;
-        -- 7 auth; 8 numbers; …]: the table is stored
+        -- [0 κ₂'s token; 1 the entries' last numbers; 2 table; 3 κ₁'s token; 4 the head's cell; 5 its open borrow; 6
+        -- obs; 7 auth; 8 numbers; …]: the table is stored
         assigns ! (of-opd ! (load ! (from-at ! (it bs _ 3) (fld ! refl (stop !))) (look-in ! 25 (sub ! 2 refl (whole !))))) (from-at ! (it bs _ 4) (stop !))
         (init ! 23 refl (table-lawful 𝓤 H A W .typed (R .table r) _ (table-is R r w₂ is-r) .0)) $
         assigns ! (addr ! (from ! (fld ! refl (hop ! (look-in ! 35 (sub ! 0 refl (whole !))) (stop !))))) (from-at ! (it bs _ 10) (stop !))

@@ -1,6 +1,7 @@
--- From the engine to the portal. The engine takes the table that was loaded, the portal lends the records themselves. Up to
--- 64 records are the engine's line as they are, and the line that it leaves is stored over them; more fit no line, so both
--- are UNFIT and leave what was lent. So what the engine promises of its outcome the portal promises of its own.
+-- From the engine to the portal. The engine takes the table that was loaded, the portal lends the records themselves.
+-- Up to 64 records are the engine's line as they are, and the line that it leaves is stored over them; more fit no
+-- line, so both are UNFIT and leave what was lent. So what the engine promises of its outcome the portal promises of
+-- its own.
 use mathlib.Core.Path.{_≡_, refl, sym, ap, _∙_}
 use mathlib.Core.List.{List, [], _∷_, _++_}
 use Prim.Native.Nat.{ℕ, suc, _≤_, _<_}

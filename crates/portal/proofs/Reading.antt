@@ -1,6 +1,6 @@
--- The two calls that change nothing, by one walk of their MIR: the records are counted, so are the entries, the records are
--- loaded, the head is copied, and the core answers. They differ in the core's name, in the answer's type R, and in what is
--- promised: C by the core of the loaded table, D by the call of the line that was lent.
+-- The two calls that change nothing, by one walk of their MIR: the records are counted, so are the entries, the records
+-- are loaded, the head is copied, and the core answers. They differ in the core's name, in the answer's type R, and in
+-- what is promised: C by the core of the loaded table, D by the call of the line that was lent.
 -- Assumes nothing.
 use mathlib.Core.Path.{_≡_, refl, subst}
 use mathlib.Core.List.{List, [], _∷_, map}
@@ -207,7 +207,8 @@ module _ {M : Type 1} (𝓤 : URA M) (H : Heap 𝓤) (A : Atoms 𝓤) (W : Given
           (came-with 𝓤 H A W RT (sep 𝓤 (A .lft κ₁ q₁) (emp 𝓤)) (λ t. t ≡ loaded ys) _ (load-said 𝓤 H A W at-mem run κ₁ x₁) w₁) $
           await ! tt $ pick ! (λ t. learn ! (λ et.
           land ! (from ! (stop !)) (init ! 6 refl (table-lawful 𝓤 H A W .typed t _ (et .0) .0)) $
-          -- [0 κ₁'s token; 1 κ₂'s; 2 κ₀'s; 3 the head's borrow; local i at 18 − 2i]: the head is looked into, and copied
+          -- [0 κ₁'s token; 1 κ₂'s; 2 κ₀'s; 3 the head's borrow; local i at 18 − 2i]: the head is looked into, and
+          -- copied
           move ! (3 ∷ 2 ∷ []) $ looks ! tt RH (Is RH) (shows 𝓤 H A RH) head-vals head-tells (LL.copy T.the-type T′.the-copy 𝓤 H A W) h b₀ o₀ (λ q′ vs.
           spelt ! RH (Is RH) (shows 𝓤 H A RH) head-vals head-tells q′ h vs b₀ o₀ $ move ! (1 ∷ []) $
           peeks ! RH (Is RH) (shows 𝓤 H A RH) h (head-vals h) (λ g. move ! (1 ∷ 0 ∷ []) $

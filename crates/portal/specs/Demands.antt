@@ -1,5 +1,5 @@
--- The demands, of the calls themselves: whatever outcomes their promises allow. proofs/Demands.antt has a proof of each, under
--- the same name in small letters.
+-- The demands, of the calls themselves: whatever outcomes their promises allow. proofs/Demands.antt has a proof of
+-- each, under the same name in small letters.
 use mathlib.Core.Path.{_≡_}
 use mathlib.Core.Logic.{_≢_, _↔_}
 use mathlib.Core.List.{List, [], _∷_, map}
@@ -99,7 +99,8 @@ SurveyUnread =
     (h : Head) (t : List Block) (es fs : List ℕ) (v w : Findings) → length es ≡ length fs
     → Surveys (lent h t es) v → Surveys (lent h t fs) w → v ≡ w
 
--- ---- demand 2: a line is opened in whatever was lent, and then steps and orders are called, each lent what the one before left
+-- ---- demand 2: a line is opened in whatever was lent, and then steps and orders are called, each lent what the one
+-- before left
 
 pub data Call : Type 0 where
   stepped : Step → Call

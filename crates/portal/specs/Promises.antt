@@ -1,6 +1,7 @@
--- What each call promises: its whole outcome, refusals included, as one equation with the definitions of the line. What was lent
--- is a line, and so is what is there afterwards; `check` and `survey` change nothing. An answer is told by what it says: its
--- number and its values. No two answers say the same, so the equation fixes the answer too: proofs/Apart.antt.
+-- What each call promises: its whole outcome, refusals included, as one equation with the definitions of the line. What
+-- was lent is a line, and so is what is there afterwards; `check` and `survey` change nothing. An answer is told by
+-- what it says: its number and its values. No two answers say the same, so the equation fixes the answer too:
+-- proofs/Apart.antt.
 use mathlib.Core.Path.{_≡_}
 use mathlib.Core.List.{List}
 use Prim.Native.Nat.{ℕ}

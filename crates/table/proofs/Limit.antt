@@ -1,5 +1,5 @@
--- What the loops of `load` and `store` need to call `at_most_64`: its contract, and the call itself. And what is known of a place
--- below its result.
+-- What the loops of `load` and `store` need to call `at_most_64`: its contract, and the call itself. And what is known
+-- of a place below its result.
 use mathlib.Core.Path.{_≡_, refl, ap}
 use mathlib.Core.Logic.{_⊎_}
 use Prim.Native.Nat.{ℕ, _<_, _≤_, _^_, _*_, _+_}

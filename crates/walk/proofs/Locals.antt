@@ -1,5 +1,5 @@
--- The locals of a function, several at once: they are allocated, the parameters among them are stored, read as operands of
--- a call, and freed. So a walk need not know how many they are, as where functions differ in their numbers only.
+-- The locals of a function, several at once: they are allocated, the parameters among them are stored, read as operands
+-- of a call, and freed. So a walk need not know how many they are, as where functions differ in their numbers only.
 use mathlib.Core.Path.{_≡_, refl, sym, subst}
 use Prim.Native.Nat.{ℕ, zero, suc}
 use mathlib.Core.List.{List, [], _∷_, _++_}

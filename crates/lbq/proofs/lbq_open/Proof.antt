@@ -18,4 +18,5 @@ unfolding code.routine
 lbq-open-spec 𝓤 H 𝓜 𝓖 𝓡 =
     let is-size = code.calls-lbq·narrow·size in let narrows = narrow.met 𝓤 H 𝓜 𝓖 𝓡 in
     changes opening 𝓤 H 𝓜 𝓖 𝓡 code.env name (EL.makes Q.the-type Q′.the-plain 𝓤 H (𝓖 .A)) (EL.lawful Q.the-type Q′.the-laws 𝓤 H (𝓖 .A) (givenOf 𝓤 H 𝓜 𝓖) tt)
-    (code.unfolded 𝓤 H 𝓜 𝓡) ((_, is-size, narrows), ((_, is-size, narrows), ((_, is-size, narrows), tt))) code.calls-portal·open (called.met 𝓤 H 𝓜 𝓖 𝓡) code.calls-lbq·replies·of-opening (replied.met 𝓤 H 𝓜 𝓖 𝓡)
+    (code.unfolded 𝓤 H 𝓜 𝓡) ((_, is-size, narrows), ((_, is-size, narrows), ((_, is-size, narrows), tt)))
+    code.calls-portal·open (called.met 𝓤 H 𝓜 𝓖 𝓡) code.calls-lbq·replies·of-opening (replied.met 𝓤 H 𝓜 𝓖 𝓡)

@@ -17,4 +17,5 @@ pub lbq-step-spec : {M : Type 1} → statement M
 unfolding code.routine
 lbq-step-spec 𝓤 H 𝓜 𝓖 𝓡 =
     changes stepping 𝓤 H 𝓜 𝓖 𝓡 code.env name (EL.makes Q.the-type Q′.the-plain 𝓤 H (𝓖 .A)) (EL.lawful Q.the-type Q′.the-laws 𝓤 H (𝓖 .A) (givenOf 𝓤 H 𝓜 𝓖) tt)
-    (code.unfolded 𝓤 H 𝓜 𝓡) ((_, code.calls-lbq·narrow·code, narrow.met 𝓤 H 𝓜 𝓖 𝓡), tt) code.calls-portal·step (called.met 𝓤 H 𝓜 𝓖 𝓡) code.calls-lbq·replies·of-answer (replied.met 𝓤 H 𝓜 𝓖 𝓡)
+    (code.unfolded 𝓤 H 𝓜 𝓡) ((_, code.calls-lbq·narrow·code, narrow.met 𝓤 H 𝓜 𝓖 𝓡), tt)
+    code.calls-portal·step (called.met 𝓤 H 𝓜 𝓖 𝓡) code.calls-lbq·replies·of-answer (replied.met 𝓤 H 𝓜 𝓖 𝓡)

@@ -1,4 +1,5 @@
--- `portal::step` meets its contract: it is a call of `Lending.antt` with a code and two numbers, over `engine::step::step`.
+-- `portal::step` meets its contract: it is a call of `Lending.antt` with a code and two numbers, over
+-- `engine::step::step`.
 use Rattle.engine.proofs.step.step.Met.{met}
 use Rattle.portal.proofs.Calls.{stepping}
 use Rattle.portal.proofs.Lending.{lends}

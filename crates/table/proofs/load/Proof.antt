@@ -1,6 +1,6 @@
--- `table::load` meets its contract, by a walk of its MIR, with a loop. The local table is a row of its records from before
--- the loop to after it (`Rows`); a turn reads record i by `record_at`, to which the slice is lent as it is, and stores it
--- to record i of that row.
+-- `table::load` meets its contract, by a walk of its MIR, with a loop. The local table is a row of its records from
+-- before the loop to after it (`Rows`); a turn reads record i by `record_at`, to which the slice is lent as it is, and
+-- stores it to record i of that row.
 use mathlib.Core.Path.{_≡_, refl, sym, ap, subst}
 use Prim.Native.Nat.{ℕ, _<_, _^_, _*_, _+_, zero-le}
 use native.Mathlib.Omega.{arith}

@@ -87,7 +87,8 @@ module _ {M : Type 1} (𝓤 : URA M) (H : Heap 𝓤) (A : Atoms 𝓤) (W : Given
         move ! (13 ∷ []) $ fsplit ! $ fsplit ! $ move ! (1 ∷ []) $ fsplit ! $ move ! (16 ∷ []) $ split ! $ move ! (3 ∷ 0 ∷ []) $
         looks-slice ! tt RB (Is RB) (shows 𝓤 H A RB) record-vals record-tells (record-copy 𝓤 H A W) ys b o (λ q′.
         elem-out ! RB (Is RB) (shows 𝓤 H A RB) record-vals record-tells q′ ys i unused b o within (λ is.
-        -- [0 table[i]; 1 what it owns; 2 the others; 3 what shuts the slice; six entries of the slice's; local i at 19 − 2i]
+        -- [0 table[i]; 1 what it owns; 2 the others; 3 what shuts the slice; six entries of the slice's; local i at 19
+        -- − 2i]
         assigns ! (of-opd ! (load ! (from ! (hop ! (look ! 11 refl) (stop !))) (look-raw ! 0 refl))) (from ! (stop !))
         (init ! 9 refl (record-lawful 𝓤 H A W .typed d _ is .0)) $
         assigns ! (of-opd ! (load ! (from ! (stop !)) (look ! 9 refl))) (from ! (stop !)) (init ! 19 refl (record-lawful 𝓤 H A W .typed d _ is .0)) $

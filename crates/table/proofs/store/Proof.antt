@@ -1,6 +1,6 @@
--- `table::store` meets its contract, by a walk of its MIR, with a loop. The local table is a row of its records from before
--- the loop to after it (`Rows`); a turn reads record i of that row, and gives it to `replace`, to which the lent table is
--- lent again.
+-- `table::store` meets its contract, by a walk of its MIR, with a loop. The local table is a row of its records from
+-- before the loop to after it (`Rows`); a turn reads record i of that row, and gives it to `replace`, to which the lent
+-- table is lent again.
 use mathlib.Core.Path.{_≡_, refl, sym, _∙_, ap, subst}
 use mathlib.Core.Logic.{_⊎_, inl, inr}
 use Prim.Native.Nat.{ℕ, _<_, _≤_, _^_, _*_, _+_, zero-le}
@@ -106,8 +106,8 @@ module _ {M : Type 1} (𝓤 : URA M) (H : Heap 𝓤) (A : Atoms 𝓤) (W : Given
         abbrev ty : ℕ → Ty
         ty k = type (code.function .locals) k
 
-        -- before a turn: [0 the local table's row; 1 the lent table; 2 the token; local i at 31 − 2i, and below _3, whose
-        -- cell is away, at 30 − 2i]
+        -- before a turn: [0 the local table's row; 1 the lent table; 2 the token; local i at 31 − 2i, and below _3,
+        -- whose cell is away, at 30 − 2i]
         abbrev At : Turn → List (Item 𝓤)
         At s =
             ‵ (row RB fullShare t l₃ 0) ∷ ‵ (Lent κ (table (s .t))) ∷ ‵ (flft κ q)
