@@ -1,12 +1,12 @@
-pub mod Calls
-pub mod Changing
+mod Calls
+mod Changing
 pub mod Crossing
-pub mod Given
-pub mod Lent
+mod Given
+mod Lent
 pub mod Narrowed
 mod Parts
-pub mod Passing
-pub mod Reading
-pub mod Replied
-pub mod Single
+mod Passing
+mod Reading
+mod Replied
+mod Single
 pub mod Unique
