@@ -63,13 +63,14 @@ use Rattle.portal.proofs.Loading.{Load, calls-load-lent}
 use Rattle.portal.proofs.Storing.{Store, Stored, calls-store}
 use Rattle.portal.proofs.Core.{Core, calls-core}
 
--- what is still had at exit: the head, and of table and entries what they are at last
+-- the contract of a call
 abbrev ended : Calling → Ended
 ended c = Changing.ended (c .widths) (RA (c .result))
 
 abbrev clauses : (c : Calling) {M : Type 1} (𝓤 : URA M) → Clauses 𝓤 (ended c)
 clauses c 𝓤 = Changing.clauses (c .widths) (RA (c .result)) 𝓤 (c .does)
 
+-- what is still had at exit: the head, and of table and entries what they are at last
 abbrev stayed : (c : Calling) → Stays (ended c .signature .params) (ended c .kept)
 stayed c =
     (stay-ref (0 ∷ []) tt (plain (λ _. RH)), (gave-slice (1 ∷ []) tt (plain (λ _. RB)), (gave-slice (2 ∷ []) tt (plain (λ _. u32)), stays 3 (c .widths))))
@@ -229,8 +230,8 @@ module _ (c : Calling) {M : Type 1} (𝓤 : URA M) (H : Heap 𝓤) (A : Atoms �
         (said .1) zs stores)))))))))))))))))))))))
 
 module _ (c : Calling) {M : Type 1} (𝓤 : URA M) (H : Heap 𝓤) where
-  abbrev Does-it : Atoms 𝓤 → Contract 𝓤
-  Does-it A = Changes (c .widths) (RA (c .result)) 𝓤 H A (c .does)
+  abbrev Promised : Atoms 𝓤 → Contract 𝓤
+  Promised A = Changes (c .widths) (RA (c .result)) 𝓤 H A (c .does)
 
   module _ (A : Atoms 𝓤) (W : Given 𝓤 H A) (at-mem : Memory → SProp 𝓤) (run : Routine → Fun 𝓤) (𝓣 : Tables 𝓤 H)
       (known-load : Triple 𝓤 (𝓣 .C #table·load) (Load 𝓤 H A W at-mem run)) (known-core : Triple 𝓤 (𝓣 .C (c .core)) (Core c 𝓤 H A W))
@@ -245,7 +246,7 @@ module _ (c : Calling) {M : Type 1} (𝓤 : URA M) (H : Heap 𝓤) where
         (a .1 .1 .0 .ptr .0) (a .1 .1 .0 .ptr .1) (a .1 .1 .0 .name) (a .1 .1 .0 .now) (a .1 .1 .1)
         (𝓣 .C) (𝓣 .Λ) (fmOf 𝓤 H (W .laws) 𝓣) known-load known-core known-store (are .1 .0 .0 .1) (are .1 .1 .0 .0 .1) (are .1 .1 .1)))
 
-    meets : Triple 𝓤 (WpFn 𝓤 H (𝓣 .C) (𝓣 .Λ) (function c)) (Does-it A)
+    meets : Triple 𝓤 (WpFn 𝓤 H (𝓣 .C) (𝓣 .Λ) (function c)) (Promised A)
     meets =
         walk-meets 𝓤 H A (ended c) (stayed c) W (
           goes-ref 𝓤 H A W 3 0 tt (plain (λ _. RH)),
@@ -259,11 +260,11 @@ module _ (c : Calling) {M : Type 1} (𝓤 : URA M) (H : Heap 𝓤) where
   -- a call meets its contract wherever its core does: `load` and `store` are those that were proved
   module _ (𝓜 : Model 𝓤 H) (𝓖 : GhostRules 𝓤 H) (𝓡 : Running 𝓤 H 𝓜) (γ : Env) (k : Name) where
     pub lends : Closed 𝓤 H (tables 𝓤 H 𝓜 𝓡 γ .C) (tables 𝓤 H 𝓜 𝓡 γ .Λ) k (function c) → γ #table·load ≡ load-def.routine → γ #table·store ≡ store-def.routine
-        → {core : Routine} → γ (c .core) ≡ core → Triple 𝓤 (𝓡 .run core) (Core c 𝓤 H (𝓖 .A) (givenOf 𝓤 H 𝓜 𝓖)) → Triple 𝓤 (tables 𝓤 H 𝓜 𝓡 γ .C k) (Does-it (𝓖 .A))
+        → {core : Routine} → γ (c .core) ≡ core → Triple 𝓤 (𝓡 .run core) (Core c 𝓤 H (𝓖 .A) (givenOf 𝓤 H 𝓜 𝓖)) → Triple 𝓤 (tables 𝓤 H 𝓜 𝓡 γ .C k) (Promised (𝓖 .A))
     unfolding tablesOf
     lends closed is-load is-store {core} is-core known-core =
         let A = 𝓖 .A in let W = givenOf 𝓤 H 𝓜 𝓖 in
-        proves 𝓤 H 𝓜 𝓡 γ (Does-it A) k (function c) closed
+        proves 𝓤 H 𝓜 𝓡 γ (Promised A) k (function c) closed
         (meets A W (𝓜 .mem) (𝓡 .run) (tablesOf 𝓤 H 𝓜 (tables 𝓤 H 𝓜 𝓡 γ))
         (cites 𝓤 H 𝓜 𝓡 γ (Load 𝓤 H A W (𝓜 .mem) (𝓡 .run)) #table·load is-load (load-thm.met 𝓤 H 𝓜 𝓖 𝓡))
         (cites 𝓤 H 𝓜 𝓡 γ (Core c 𝓤 H A W) (c .core) is-core known-core)
