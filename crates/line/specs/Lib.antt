@@ -13,3 +13,4 @@ pub mod Samples
 pub mod Damaged
 pub mod Cases
 pub mod ClearingCases
+pub mod Numbers
