@@ -2,7 +2,6 @@
 ghost use mathlib.Core.Path.{_≡_};
 ghost use Prim.Native.Nat.{_+_, _%_, _≤_, _<_};
 ghost use Rattle.book.specs.Sizes.{sized, currentTurn};
-ghost use Rattle.line.specs.Tests.{isRecent};
 
 // The block in which a turn stands.
 pub fn block_of(turn: u32, nb: u32) -> usize
@@ -30,14 +29,4 @@ pub fn current_turn(nb: u32, p: u32, i: u32) -> u32
         return p;
     }
     p - (p - i) % nb
-}
-
-// A turn is its block's current one if it is among the last NB turns up to P.
-pub fn is_current(nb: u32, p: u32, turn: u32) -> bool
-    ensures { λ r. ⌜ r ≡ isRecent nb p turn ⌝ }
-{
-    if p < turn {
-        return false;
-    }
-    p - turn < nb
 }
