@@ -15,7 +15,7 @@ use Rattle.book.proofs.Choice.{and-second, lt→true, ge→false}
 use Rattle.line.specs.declared.Block.{Block}
 use Rattle.line.specs.declared.Head.{Head}
 use Rattle.line.specs.Line.{Line, Spot, unused, sizeOf, getAt, recordOf, entryOf, labelAt, movesOn, takenOver, reach, readAt, getStep}
-use Rattle.line.proofs.Cells.{cell}
+use Rattle.line.proofs.Cells.{Cell, cell}
 use Rattle.byvalue.specs.Lent.{lineOf}
 use Rattle.byvalue.specs.GivenBack.{given, backOf}
 use Rattle.byvalue.specs.Ready.{Ready}
@@ -70,9 +70,14 @@ module _ (h : Head) (t : List Block) (es : List ℕ) where
     pub ready : Ready h t es
     pub from : h .k ≤ k
     pub to : k ≤ h .p
+    pub place-fits : place ≤ h .ne
     pub block : i ≡ k % h .nb
     pub here : b ≡ recordOf z (l .table) k
     pub more : getStep z l ≡ readAt z l (reach z (h .nb - 1 - (k - h .k)) (l .table) (h .p) (at k place))
+
+  -- the record of turn k, which is one of those from K to P
+  cell-at : Ready h t es → (k : ℕ) → h .k ≤ k → k ≤ h .p → Cell l k
+  cell-at r k from to = cell l (blocks h t es r .0) (r .sound) k (record { low = to; high = omega (arith, r .sound .one .near) })
 
   pub begins : Ready h t es → (i : ℕ) → i ≡ h .k % h .nb → Come (h .k) (h .reading) i (getD t i unused)
   unfolding getStep
@@ -80,6 +85,7 @@ module _ (h : Head) (t : List Block) (es : List ℕ) where
     ready = r;
     from = omega arith;
     to = r .sound .one .below;
+    place-fits = omega (arith, r .sound .two .to, cell-at r (h .k) (omega arith) (r .sound .one .below) .fits);
     block = e;
     here = record-at h t es r (h .k) i e;
     more = (let n : h .nb - 1 - (h .k - h .k) ≡ h .nb - 1 = omega arith in rw n);
@@ -105,6 +111,7 @@ module _ (h : Head) (t : List Block) (es : List ℕ) where
             ready = r;
             from = omega (arith, s .from);
             to = omega (arith, onward);
+            place-fits = (let q = cell-at r (k + 1) (omega (arith, s .from)) (omega (arith, onward)) in omega (arith, q .claims, q .fits, ap (λ (d : Block). d .claimed) c));
             block = at-j;
             here = c;
             more = rw (c, add-one) (s .more ∙ ap (readAt z l) (rw (one-less (h .nb) (h .p) (h .k) k (r .sound .one .near) (s .from) onward) (reach-on z (l .table) (h .p) (at k place) _ (sym same-moves ∙ e))));
@@ -125,8 +132,4 @@ module _ (h : Head) (t : List Block) (es : List ℕ) where
           rw (stopped, ← s .here, lt→true place (b .written) w, add-one, f, s .block) (back-lent (h .nb) few t t (getAt h (at k (suc place))) es (Got (labelAt z es (at k place))) refl)
 
     pub place-below : place < b .written → place < h .ne
-    place-below w =
-        let r = s .ready in
-        let pos = blocks h t es r .0 in
-        let c = cell l pos (r .sound) k (record { low = s .to; high = omega (arith, r .sound .one .near, s .from) }) in
-        omega (arith, c .fits, ap (λ (d : Block). d .written) (s .here))
+    place-below w = omega (arith, cell-at (s .ready) k (s .from) (s .to) .fits, ap (λ (d : Block). d .written) (s .here))

@@ -1,3 +1,4 @@
+pub mod Comparing
 pub mod Puts
 pub mod Orders
 pub mod Gets

@@ -48,21 +48,22 @@ fn is_order(a: u32, b: u32) -> bool
 fn has_room(written: u16, ne: u32) -> bool
     ensures { λ r. ⌜ r ≡ (written <ᵇ ne) ⌝ }
 {
-    (written as u32) < ne
+    (written as u32) + 1 <= ne
 }
 
-// Does a label stand at the reading place.
+// Does a label stand at the reading place: one more than have been read is written.
 fn is_written(place: u16, written: u16) -> bool
     ensures { λ r. ⌜ r ≡ (place <ᵇ written) ⌝ }
 {
-    (place as u32) < (written as u32)
+    (place as u32) + 1 <= (written as u32)
 }
 
-// Has the owner read the block to its end.
+// Has the owner read the block to its end: there is no entry for one more.
 fn is_read(place: u16, ne: u16) -> bool
+    requires { ⌜ place ≤ ne ⌝ }
     ensures { λ r. ⌜ r ≡ (place ≡ᵇ ne) ⌝ }
 {
-    (place as u32) == (ne as u32)
+    (ne as u32) < (place as u32) + 1
 }
 
 // Has a desk claimed or fetched in the block and not finished.
@@ -141,16 +142,17 @@ fn room_for(nb: u32, ne: u32, p: u32, here: usize, next: usize, current: Block) 
     }
 }
 
-// What an order answers that is stopped at `label`: the refusal, with the number placed before it.
-fn stopped(w: Refusal, first: u32, label: u32) -> Answer
+// How many labels an order has placed that is stopped at `label`.
+fn placed(first: u32, label: u32) -> u32
     requires { ⌜ (first ≤ label) × (label ≤ 999999) ⌝ }
-    ensures { λ r. ⌜ r ≡ Answer.Refused w (label - first) ⌝ }
+    ensures { λ r. ⌜ r ≡ label - first ⌝ }
 {
-    Answer::Refused(w, label - first)
+    label - first
 }
 
 // Does a get at `place` of turn K move on, `current` being the record of that turn's block.
 fn moves_on(ne: u16, p: u32, k: u32, place: u16, current: Block) -> bool
+    requires { ⌜ place ≤ ne ⌝ }
     ensures { λ r. ⌜ r ≡ movesOn (sized 0 ne 0) p current (record { turn = k; place = place }) ⌝ }
 {
     if is_written(place, current.written) {
@@ -236,7 +238,7 @@ pub fn order(h: Head, table: [Block; 64], entries: &mut [u32], a: u32, b: u32) -
                 let mut head = h;
                 head.p = p;
                 return Outcome {
-                    answer: stopped(w, a, label),
+                    answer: Answer::Refused(w, placed(a, label)),
                     head,
                     table: t,
                 };

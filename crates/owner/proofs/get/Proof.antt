@@ -35,7 +35,7 @@ get-spec =
     (λ c κs. blocks _ _ _ (start c .pre))
     (λ c. search needs) (λ c. search needs)
     (λ c. let b = c .before in begins _ _ _ (start (b .before) .pre) _ (b .block-of .ensures .0))
-    (λ c κs. search needs)
+    (λ c κs. c .loop .inv .place-fits)
     (λ c. let m = c .before in let s = walk m .loop .inv in omega (arith, onward _ _ _ s (sym (m .moves-on .ensures) ∙ c .if1 .taken), turns _ _ _ (s .ready)))
     (λ c κs. let s = walk (c .before) .loop .inv in block-below _ _ _ (s .ready) _ _ (s .block))
     (λ c. search needs) (λ c. search needs)

@@ -1,5 +1,6 @@
 -- Each answer rewrites with the tests that led there.
 use mathlib.Core.Path.{sym, _∙_}
+use borrow.Author.Needs.{needs}
 use borrow.Author.Tests.{not-true, not-false}
 use Rattle.line.specs.Line.{movesOn}
 use Rattle.owner.proofs.moves_on.Statement.{statement}
@@ -15,6 +16,6 @@ moves-on-spec =
     (tie.spec
     (λ c κs. search)
     (λ c. simp (sym (c .before .is-written .ensures) ∙ c .if1 .taken))
-    (λ c κs. search)
+    (λ c κs. search needs)
     (λ c. let r = c .before in simp (sym (written r .is-written .ensures) ∙ r .before .if1 .left, sym (r .is-read .ensures) ∙ not-true _ (c .if2 .taken)))
     (λ c. let r = c .before in simp (sym (written r .is-written .ensures) ∙ r .before .if1 .left, sym (r .is-read .ensures) ∙ not-false _ (c .if2 .left))))

@@ -78,11 +78,11 @@ order-spec =
     one-more _ _ _ _ _ (l .before .loop .inv) (l .loop-test .taken)
     (reads (v .before)) (sym (v .may-put .ensures) ∙ g .before .enum-told .given .1)
     (record { room = g .room-for .ensures .0; entries = y .write-label .ensures }))
-    (λ c. search needs) (λ c κs. let l = inside (refusal (c .before) .before) in let s = l .before .loop .inv in (s .from, omega (arith, s .last, l .loop-test .taken)))
+    (λ c. search needs) (λ c κs. let l = inside (refusal (c .before) .before) in let s = l .before .loop .inv in (omega (arith, s .from), omega (arith, s .last, l .loop-test .taken)))
     (λ c. let l = inside (refusal (c .before .before) .before) .before in as-long _ _ _ _ _ (l .loop .inv) (start l .pre))
     (λ c.
     let w = c .before .before in let v = refusal w in let l = inside (v .before) in
-    rw (c .stopped .ensures) (stopped _ _ _ _ _ (l .before .loop .inv) (l .loop-test .taken) (reads (v .before)) _ (sym (v .may-put .ensures) ∙ w .w .given .1)))
+    rw (c .placed .ensures) (stopped _ _ _ _ _ (l .before .loop .inv) (l .loop-test .taken) (reads (v .before)) _ (sym (v .may-put .ensures) ∙ w .w .given .1)))
     (λ c. omega arith)
     (λ c. as-long _ _ _ _ _ (c .before .loop .inv) (start (c .before) .pre))
     (λ c. whole _ _ _ _ _ (c .before .loop .inv) (c .loop-test .left)))
