@@ -1,5 +1,5 @@
--- Where turns stand round the NB blocks: the next turn's block, the turn that is read of an unused block, and when a turn is its
--- block's current one.
+-- Where turns stand round the NB blocks: the next turn's block, the turn that is read of an unused block, and when
+-- a turn is its block's current one.
 use mathlib.Core.Path.{_≡_, sym, ap, _∙_}
 use mathlib.Core.Bool.{Bool, true, _&&_}
 use Prim.Native.Nat.{ℕ, _+_, _-_, _%_, _≤_, _<_}

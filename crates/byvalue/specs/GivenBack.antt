@@ -1,5 +1,5 @@
--- What a call gives back: the answer, the head, the table of 64 records and the entries. And what it is to give back of an
--- outcome on the line that was lent: the lent records stand in front of the others.
+-- What a call gives back: the answer, the head, the table of 64 records and the entries. And what it is to give
+-- back of an outcome on the line that was lent: the lent records stand in front of the others.
 use mathlib.Core.List.{List, _++_}
 use Prim.Native.Nat.{ℕ}
 use lib.ListN.{drop}

@@ -1,4 +1,5 @@
--- A desk's step on a sound line: the numbers that it computes with are in range, and it comes to one desk and one record.
+-- A desk's step on a sound line: the numbers that it computes with are in range, and it comes to one desk and one
+-- record.
 use mathlib.Core.Path.{_≡_, refl, sym, ap, subst, _∙_}
 use mathlib.Core.Bool.{Bool, not}
 use mathlib.Core.List.{List}

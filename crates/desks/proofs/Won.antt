@@ -1,5 +1,5 @@
--- When a claim is won, by comparisons: a turn is its block's current one if it is among the last NB turns up to P, and the
--- block of a current turn is owned if the turn is at most K.
+-- When a claim is won, by comparisons: a turn is its block's current one if it is among the last NB turns up to P,
+-- and the block of a current turn is owned if the turn is at most K.
 use mathlib.Core.Path.{_≡_, refl, _∙_}
 use mathlib.Core.Bool.{true, false, not, _&&_}
 use Prim.Native.Nat.{ℕ, _≤_, _<_}

@@ -1,5 +1,5 @@
--- The block that a desk's step reads: a look's own, or that of the desk's turn. Where a look's block is used, it is that of the
--- turn that `turnRead` says; an unused block has no turn, and no look at it is SEEN.
+-- The block that a desk's step reads: a look's own, or that of the desk's turn. Where a look's block is used, it is
+-- that of the turn that `turnRead` says; an unused block has no turn, and no look at it is SEEN.
 use Prim.Native.Nat.{ℕ, _%_}
 use Rattle.book.specs.declared.DeskStep.{DeskStep}
 use Rattle.book.specs.declared.DeskStep.the-variants.{Look as look, Claim as claim, Fetch as fetch, Finish as finish}

@@ -1,4 +1,5 @@
--- A call on what was lent goes by what the check says: it is refused, or the line is sound and was lent with its NB records.
+-- A call on what was lent goes by what the check says: it is refused, or the line is sound and was lent with its NB
+-- records.
 use mathlib.Core.Path.{_≡_, refl, sym, ap, subst, subst⁻¹, _∙_}
 use mathlib.Core.List.{List}
 use Prim.Native.Nat.{ℕ}

@@ -1,5 +1,5 @@
--- A mask of bits, the first of them lowest: its ones are their number, and its trailing zeros the lowest of them. It is built
--- from the top block down.
+-- A mask of bits, the first of them lowest: its ones are their number, and its trailing zeros the lowest of them.
+-- It is built from the top block down.
 use mathlib.Core.Path.{_≡_, refl, ap, ap₂, _∙_}
 use mathlib.Core.Bool.{Bool, true, false}
 use mathlib.Core.List.{List, [], _∷_}

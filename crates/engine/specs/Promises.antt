@@ -1,4 +1,5 @@
--- What each public call promises: its whole outcome, the answer with head, table and entries afterwards, refusals included.
+-- What each public call promises: its whole outcome, the answer with head, table and entries afterwards, refusals
+-- included.
 use mathlib.Core.Path.{_≡_}
 use mathlib.Core.List.{List}
 use Prim.Native.Nat.{ℕ}
