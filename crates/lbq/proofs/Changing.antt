@@ -29,7 +29,7 @@ use denote.Triple.Statement.{Triple}
 use Rattle.line.specs.Line.{Line}
 use Rattle.walk.proofs.Called.{lone-typed}
 use Rattle.walk.proofs.Entered.{proves, cites}
-use Rattle.walk.proofs.Numbers.{Numbers, ints, numbers, machine, typed}
+use Rattle.walk.proofs.Numbers.{Numbers, ints, numbers, numbers-args, machine, typed}
 use Rattle.walk.proofs.Locals.{none, Addrs, env, past, past-is, From, from-first, from-next, from-past, values, alloc-all, pass-all, free-all, free, from-at}
 use Rattle.portal.proofs.Changing.{Does, Changes}
 use Rattle.portal.proofs.Rows.{RH, RB}
@@ -37,7 +37,7 @@ use Rattle.lbq.specs.Replies.{Reply}
 use Rattle.lbq.proofs.Reply as R
 use Rattle.lbq.proofs.Reply.Laws as R′
 use Rattle.lbq.proofs.Single.{Single, calls-single}
-use Rattle.lbq.proofs.Given.{Number, kept, narrowed, given, passed, made, down, narrowing, operands, on, numbers-on, news, Known, narrow-all, read-both}
+use Rattle.lbq.proofs.Given.{Number, kept, narrowed, given, passed, made, down, narrowing, operands, on, news, Known, narrow-all, read-both}
 use Rattle.lbq.proofs.Lent.{line, tokens}
 use Rattle.lbq.proofs.Passing.{held, calls-passed, exits, Walk, meets}
 
@@ -163,7 +163,7 @@ module _ (c : Calling) where
         free ! $ free ! $ free ! $ free ! $ free ! $ free ! $ free0 ! $
         by ! (exits 𝓤 H A W κs qs x ws ns R.the-row (c .promise) (LL.makes R.the-type R′.the-plain 𝓤 H A) r m w is long
         (subst (λ (s : Reply). c .promise (line x) (numbers 3 κs ws ns) s m) (sym told) (c .keeps (line x) m (numbers 3 κs ws ns) y
-        (subst (λ (z : Numbers (passed (c .numbers))). c .does (line x) z y m) (numbers-on κs (c .numbers) ns) said)))))))))))))))))))
+        (subst (λ (z : Numbers (passed (c .numbers))). c .does (line x) z y m) (numbers-args 3 κs (passed (c .numbers)) (down (c .numbers) (numbers 3 κs ws ns))) said)))))))))))))))))))
 
   -- ---- a call keeps its promise wherever those that it calls do
   module _ {M : Type 1} (𝓤 : URA M) (H : Heap 𝓤) (𝓜 : Model 𝓤 H) (𝓖 : GhostRules 𝓤 H) (𝓡 : Running 𝓤 H 𝓜) (γ : Env) (k : Name) where
