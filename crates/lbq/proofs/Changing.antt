@@ -34,8 +34,8 @@ use Rattle.walk.proofs.Locals.{none, Addrs, env, past, past-is, From, from-firs
 use Rattle.portal.proofs.Changing.{Does, Changes}
 use Rattle.portal.proofs.Rows.{RH, RB}
 use Rattle.lbq.specs.Replies.{Reply}
-use Rattle.lbq.proofs.Reply as R
-use Rattle.lbq.proofs.Reply.Laws as R′
+use Rattle.lbq.proofs.replies.Reply as R
+use Rattle.lbq.proofs.replies.Reply.Laws as R′
 use Rattle.lbq.proofs.Single.{Single, calls-single}
 use Rattle.lbq.proofs.Given.{Number, kept, narrowed, given, passed, made, down, narrowing, operands, on, news, Known, narrow-all, read-both}
 use Rattle.lbq.proofs.Lent.{line, tokens}
