@@ -11,8 +11,8 @@ use Rattle.schedule.specs.Bytes.{isLong, isHeader, sizeIn, wholeSteps, s
 
 -- ---- the header
 
--- nothing, a byte, seven bytes, each letter and each byte of the version wrong, the two bytes of the version the other way
--- round, a wrong version before numbers outside their limits, and zeros
+-- nothing, a byte, seven bytes, each letter and each byte of the version wrong, the two bytes of the version the other
+-- way round, a wrong version before numbers outside their limits, and zeros
 abbrev pub headerless : List (List ℕ)
 headerless =
     []
