@@ -1,5 +1,5 @@
--- The cases of specs/Cases.antt, a list at a time, by computing. A definition that is changed gives another text, and the
--- list with such a case is refused.
+-- The cases of specs/Cases.antt, a list at a time, by computing. A definition that is changed gives another text, and
+-- the list with such a case is refused.
 use mathlib.Core.Path.{refl, ap}
 use Rattle.book.specs.Total.{total, any, all}
 use Rattle.book.specs.Sizes.{fits, isLabel, isOrder, currentTurn, isOwned}

@@ -6,7 +6,7 @@ use Rattle.book.specs.Sizes.{Size}
 use Rattle.book.specs.Steps.{Step}
 use Rattle.line.specs.declared.Block.{Block}
 use Rattle.line.specs.declared.Head.{Head}
-use Rattle.line.specs.Line.{Line, Outcome, says}
+use Rattle.line.specs.Line.{Outcome, says}
 use Rattle.line.specs.Calls.{step}
 use Rattle.line.specs.Agrees.{Lawful}
 use Rattle.engine.specs.declared.Outcome.{Outcome as OutcomeByValue}
