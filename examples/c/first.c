@@ -9,31 +9,32 @@ static lbq_head head;
 static lbq_block table[NB];
 static uint32_t entries[NB * NE];
 
-/* Does a step and prints the paper's word with the value. */
-static void step(uint32_t code, uint32_t a, uint32_t b)
+/* What every call is lent. */
+#define LINE &head, table, NB, entries, NB * NE
+
+/* Prints the paper's word for an answer to a step of this code, with the value. */
+static void print(uint32_t code, lbq_answer answer)
 {
-    lbq_answer answer = lbq_step(&head, table, NB, entries, NB * NE, code, a, b);
     printf("%s %lu\n", lbq_word(code, answer.number), (unsigned long)answer.value);
 }
 
 int main(void)
 {
     const uint32_t desk = 0;
-    lbq_views views;
 
-    if (lbq_open(&head, table, NB, entries, NB * NE, NB, NE, T).number != LBQ_TAKEN) {
+    if (lbq_version() != LBQ_VERSION || lbq_open(LINE, NB, NE, T).number != LBQ_TAKEN) {
         return 1;
     }
-    step(LBQ_ORDER, 1, 100);
+    print(LBQ_ORDER, lbq_order(LINE, 1, 100));
 
     /* The owner is at block 0, so the lowest block that a desk can take from is block 1, with labels 65 to 100. */
-    views = lbq_survey(&head, table, NB, entries, NB * NE);
-    step(LBQ_LOOK + desk, views.lowest, 0);
-    step(LBQ_CLAIM + desk, 0, 0);
-    step(LBQ_FETCH + desk, 0, 0);
-    step(LBQ_FINISH + desk, 0, 0);
+    print(LBQ_LOOK, lbq_look(LINE, desk, lbq_survey(LINE).lowest));
+    print(LBQ_CLAIM, lbq_claim(LINE, desk));
+    print(LBQ_FETCH, lbq_fetch(LINE, desk));
+    print(LBQ_FINISH, lbq_finish(LINE, desk));
 
-    step(LBQ_GET, 0, 0);
-    step(LBQ_PUT, 1000000, 0);
-    return lbq_check(&head, table, NB, entries, NB * NE).number == 0 ? 0 : 1;
+    print(LBQ_GET, lbq_get(LINE));
+    print(LBQ_PUT, lbq_put(LINE, 1000000));
+    print(LBQ_CLAIM, lbq_claim(LINE, 16));
+    return lbq_check(LINE).number == LBQ_TAKEN ? 0 : 1;
 }

@@ -9,21 +9,22 @@ use mathlib.Core.List.{List, [], _∷_}
 use Prim.Native.Nat.{ℕ, zero, suc, _+_, _-_, _*_, _/_, _≤_, _<_, zero-le}
 use native.Mathlib.Nat.{mul-le-mul-left, le-trans}
 use native.Mathlib.Omega.{arith}
-use lib.Dec.{T, ltb→lt, nltb→le, nleb→lt}
+use lib.Dec.{T, ltb→lt, nltb→le}
 use lib.ListN.{length, set, length-replicate, length-set, length-append}
 use Rattle.words.specs.declared.Answer.the-variants.{Refused}
 use Rattle.book.specs.Choice.{if_then_else_, _<ᵇ_, _≤ᵇ_}
 use Rattle.book.specs.Total.{total}
-use Rattle.book.specs.Sizes.{Size, isLabel, isOrder, roundOf, isUsed, currentTurn, isOwned}
-use Rattle.book.specs.Steps.{Step, DeskStep, look, claim, fetch, finish, Deed, put, get, order, desk, unlisted, decode, Desk, idle, looked, claimed, fetched, carried}
-use Rattle.book.specs.Verdicts.{Verdict, judge, stage, column, atStage, noBlock, admitted, lookable, startable, placeable}
+use Rattle.book.specs.Sizes.{Size, isLabel, isOrder, roundOf}
+use Rattle.book.specs.Steps.{Step, DeskStep, Deed, put, get, order, desk, unlisted, decode, Hold, Desk, idle, looked, holding, claimedAt, withFetched}
+use Rattle.book.specs.Verdicts.{Verdict, judge, startable, placeable}
 use Rattle.book.specs.Book.{Row, Book, Outcome, says, rowAt, deskAt, withDesk, append, markGone, putTurn, rowOf, written, first, waits, isBusy, mayPut, putStep, putMany, orderStep}
-use Rattle.book.specs.Book.{readTurn, getAt, getStep, lookStep, winnable, claimStep, fetchStep, finishStep, deskDoes, deskStep, does, step, opened, answers, after}
+use Rattle.book.specs.Book.{readTurn, getAt, getStep, winnable, deskStep, does, step, opened, answers, after}
 use Rattle.book.specs.Counts.{count, won, lost, bound}
 use Rattle.book.specs.Demands.{Placed, Bounded}
 use Rattle.book.proofs.Choice.{by-test, cases, T→true, not→false, and-first, and-second, lt→true}
 use Rattle.book.proofs.Total.{total-set, total-mono, total-le, total-below, total-replicate}
 use Rattle.book.proofs.Turns.{div-mono}
+use Rattle.book.proofs.DeskKinds.{isLost, desk-kind}
 use Rattle.book.proofs.Counting.{placed-rows}
 use Rattle.book.proofs.Rows.{row-turn, first-fits, first-waits, read-from, read-to, row-append, mark-length, mark-other}
 
@@ -33,8 +34,7 @@ module _ (z : Size) where
   abbrev deadBy : List Row → ℕ → Desk ℕ → ℕ
   deadBy rs k idle = 0
   deadBy rs k (looked r) = if winnable z rs k r then 0 else 1
-  deadBy rs k (claimed r) = 0
-  deadBy rs k (fetched r) = 0
+  deadBy rs k (holding h) = 0
 
   abbrev dead : Book → ℕ
   dead b = total (deadBy (b .rows) (b .k)) (b .desks)
@@ -58,8 +58,7 @@ module _ (z : Size) where
   dead-one : (rs : List Row) (k : ℕ) (x : Desk ℕ) → deadBy rs k x ≤ 1
   dead-one rs k idle = zero-le
   dead-one rs k (looked r) = by-test (λ n. n ≤ 1) (winnable z rs k r) (λ _. omega arith) (λ _. omega arith)
-  dead-one rs k (claimed r) = zero-le
-  dead-one rs k (fetched r) = zero-le
+  dead-one rs k (holding h) = zero-le
 
   -- where each row that could be won still can, no more looks are dead
   module _ (rs qs : List Row) (k : ℕ) (keep : (r : ℕ) → T (winnable z rs k r) → T (winnable z qs k r)) where
@@ -68,8 +67,7 @@ module _ (z : Size) where
     dead-less (looked r) =
         by-test (λ n. deadBy qs k (looked r) ≤ n) (winnable z rs k r)
         (λ t. rw (T→true (winnable z qs k r) (keep r t)) zero-le) (λ _. dead-one qs k (looked r))
-    dead-less (claimed r) = zero-le
-    dead-less (fetched r) = zero-le
+    dead-less (holding h) = zero-le
 
     dead-kept : (l : List (Desk ℕ)) → total (deadBy qs k) l ≤ total (deadBy rs k) l
     dead-kept = total-mono (deadBy qs k) (deadBy rs k) dead-less
@@ -128,57 +126,25 @@ module _ (z : Size) where
           let place = first z (b .rows) t in
           changes (looked (rowOf z t place)) 0 (rw (first-waits z (b .rows) t w, row-turn z t place (first-fits z (b .rows) t w), lt→true (b .k) t l) zero-le)
 
-      look-paid : (i : ℕ) → Pays b (lookStep z b d i)
-      unfolding lookStep lookable isOwned
-      look-paid i =
-          let p = putTurn z (b .rows) in
-          let t = currentTurn z p i in
-          by-test (Judged b _ 0) (isOwned z p (b .k) i) (λ _. stays) (λ o.
-          by-test (Judged b _ 0) (isUsed z p i && waits z (b .rows) t)
-          (λ w. sees t (nleb→lt t (b .k) (rw (T→true (isUsed z p i) (and-first (isUsed z p i) (waits z (b .rows) t) w)) at o)) (and-second (isUsed z p i) (waits z (b .rows) t) w))
-          (λ _. stays))
-
       -- the desk that wins has no look, so at most T - 1 are dead
-      wins : (r : ℕ) → Paid b (record { rows = markGone (b .rows) r; k = b .k; desks = set (b .desks) d (claimed r) }) 0 1
+      wins : (x : Hold ℕ) → Paid b (record { rows = markGone (b .rows) (x .at); k = b .k; desks = set (b .desks) d (holding x) }) 0 1
       unfolding putTurn
-      wins r =
-          let rs = markGone (b .rows) r in
+      wins x =
+          let rs = markGone (b .rows) (x .at) in
           record {
-            fit = record { many = length-set (b .desks) d (claimed r) ∙ f .many; reached = rw mark-length (f .reached) };
-            paid = omega (arith, total-below (deadBy rs (b .k)) (dead-one rs (b .k)) (b .desks) d (claimed r) (omega arith) refl);
+            fit = record { many = length-set (b .desks) d (holding x) ∙ f .many; reached = rw mark-length (f .reached) };
+            paid = omega (arith, total-below (deadBy rs (b .k)) (dead-one rs (b .k)) (b .desks) d (holding x) (omega arith) refl);
           }
 
-      claim-paid : (r : ℕ) → deskAt b d ≡ looked r → Pays b (claimStep z b d r)
-      unfolding claimStep
-      claim-paid r e =
-          by-test (Pays b) (winnable z (b .rows) (b .k) r) (λ _. wins r)
-          (λ n. changes idle 1 (rw (e, not→false (winnable z (b .rows) (b .k) r) n) (omega arith)))
-
-      -- the grid, a stage at a time
-      at-stage : (x : Desk ℕ) (s : DeskStep) → deskAt b d ≡ x → Judged b (deskDoes z b d (carried 0 x) s) 0 (atStage (stage x) (column s))
-      unfolding deskDoes fetchStep finishStep
-      at-stage idle (look i) e = look-paid i
-      at-stage idle claim e = stays
-      at-stage idle fetch e = stays
-      at-stage idle finish e = stays
-      at-stage (looked r) (look i) e = look-paid i
-      at-stage (looked r) claim e = claim-paid r e
-      at-stage (looked r) fetch e = stays
-      at-stage (looked r) finish e = stays
-      at-stage (claimed r) (look i) e = stays
-      at-stage (claimed r) claim e = stays
-      at-stage (claimed r) fetch e = changes (fetched r) 0 zero-le
-      at-stage (claimed r) finish e = stays
-      at-stage (fetched r) (look i) e = stays
-      at-stage (fetched r) claim e = stays
-      at-stage (fetched r) fetch e = stays
-      at-stage (fetched r) finish e = changes idle 0 zero-le
-
     desk-paid : (d : ℕ) (s : DeskStep) → Pays b (deskStep z b d s (deskAt b d))
-    unfolding deskStep admitted
-    desk-paid d s =
-        by-test (Judged b _ 0) (z .t ≤ᵇ d) (λ _. stays) (λ t.
-        by-test (Judged b _ 0) (noBlock z s) (λ _. stays) (λ _. at-stage d (nleb→lt (z .t) d t) (deskAt b d) s refl))
+    desk-paid = desk-kind z b (Pays b) (record {
+      refused = λ w n. rw (not→false (isLost w) n) stays;
+      seen = λ d t i _ l w. sees d i t l w;
+      won = λ d r i _ _. wins d i (claimedAt r);
+      lost = λ d r i e n. changes d i idle 1 (rw (e, not→false (winnable z (b .rows) (b .k) r) n) (omega arith));
+      took = λ d x i _ _. changes d i (holding (withFetched x)) 0 zero-le;
+      done = λ d x i _ _. changes d i idle 0 zero-le;
+    })
 
     -- ---- put and order: no refusal of a put is LOST, and one more row makes no look dead
 

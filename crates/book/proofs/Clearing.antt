@@ -8,24 +8,24 @@ use mathlib.Core.List.{List, [], _∷_, _++_, append-assoc}
 use Prim.Native.Nat.{ℕ, suc, _+_, _-_, _*_, _≤_, _<_}
 use native.Mathlib.Nat.{le-refl}
 use native.Mathlib.Omega.{arith}
-use lib.Dec.{T, T-not, leb, leb→le, nleb→lt, nltb→le}
-use lib.ListN.{length, getD, replicate, length-append, length-replicate}
+use lib.Dec.{T, T-not, leb→le, ltb→lt, nltb→le}
+use lib.ListN.{length, getD, replicate, length-append, length-replicate, List·getD-eq-default}
 use Rattle.words.specs.declared.Answer.{Answer}
 use Rattle.words.specs.declared.Answer.the-variants.{Put, Refused}
 use Rattle.words.specs.declared.Refusal.the-variants.{Worn, Busy, Empty}
 use Rattle.book.specs.Choice.{if_then_else_, _<ᵇ_, _≤ᵇ_}
 use Rattle.book.specs.Total.{total, any}
 use Rattle.book.specs.Sizes.{Size, within, fits, isLabel, roundOf}
-use Rattle.book.specs.Steps.{Step, decode, Desk, idle, looked, claimed, fetched}
+use Rattle.book.specs.Steps.{Step, decode, Desk, idle, looked, holding}
 use Rattle.book.specs.Verdicts.{Verdict, judge, startable, placeable}
 use Rattle.book.specs.Book.{Row, Book, says, refuse, rowAt, deskAt, append, putTurn, written, heldIn, isBusy, mayPut, putStep, does, step, opened, answers, after, leaves}
-use Rattle.book.specs.Counts.{unfetchedBy, unfetched, waitsBy, waiting, times}
-use Rattle.book.specs.Cases.{get}
+use Rattle.book.specs.Counts.{unfetchedBy, unfetched, timesHeld, waitsBy, waiting, times}
+use Rattle.book.specs.Messages.{get}
 use Rattle.book.specs.Clearing.{settling, emptying, clearing, IsPlaced, IsWorn, IsBusy, NothingStuck, OnlyBusy}
 use Rattle.book.proofs.Choice.{by-test, cases, not→false, and-first, and-second, eqb-same}
 use Rattle.book.proofs.Total.{total-none, total-zero, total-replicate, any-at}
 use Rattle.book.proofs.Turns.{div-next}
-use Rattle.book.proofs.Counting.{Fair, only, heldBy, held, run-kept, opened-kept}
+use Rattle.book.proofs.Counting.{Fair, one, only, held, free-unfetched, run-kept, opened-kept}
 use Rattle.book.proofs.DeskKinds.{Free}
 use Rattle.book.proofs.Fronts.{Gone, Fronts, run-grows, opened-fronts}
 use Rattle.book.proofs.Settling.{settling-length, Settled, settled}
@@ -83,30 +83,14 @@ module _ (n : ℕ) where
   unfolding only
   gone-most rs = by-test {A = ℕ} (λ m. m ≤ 1) ((rowAt rs n) .gone) {x = 1} {y = 0} (λ _. omega arith) (λ _. omega arith)
 
-  claimed-held : (ds : List (Desk ℕ)) (d : ℕ) → getD ds d idle ≡ claimed n → 1 ≤ held ((only n) .weight) ds
-  unfolding only
-  claimed-held ds d e =
-      let w = (only n) .weight in
-      cases (leb 1 (held w ds)) (λ t. leb→le 1 (held w ds) t) (λ t. absurd (
-      let none = total-zero (heldBy w) ds d idle (omega arith) (omega (arith, nleb→lt 1 (held w ds) t)) in
-      let one : 1 * w n ≡ 0 = rw e at none in
-      omega (arith, ap {B = ℕ} (λ (x : Bool). if x then 1 else 0) (eqb-same n))))
-
-free-fetched : (x : Desk ℕ) → Free x → unfetchedBy x ≡ 0
-free-fetched idle f = refl
-free-fetched (looked r) f = refl
-free-fetched (claimed r) f = absurd f
-free-fetched (fetched r) f = absurd f
-
 free-held : (w : ℕ → ℕ) (ds : List (Desk ℕ)) → ((d : ℕ) → Free (getD ds d idle)) → held w ds ≡ 0
-free-held w ds f = total-none (heldBy w) ds idle (λ d. rw (free-fetched (getD ds d idle) (f d)) (omega arith))
+free-held w ds f = total-none (unfetchedBy w) ds idle (λ d. free-unfetched w (getD ds d idle) (f d))
 
 free-not : (z : Size) (q : ℕ) (x : Desk ℕ) → Free x → T (heldIn z q x) → ⊥
 unfolding heldIn
 free-not z q idle f h = h
 free-not z q (looked r) f h = h
-free-not z q (claimed r) f h = f
-free-not z q (fetched r) f h = f
+free-not z q (holding x) f h = f
 
 -- ---- the run that clears a line
 
@@ -168,7 +152,7 @@ module _ (z : Size) (v : Limits z) (b : Book) (fair : Fair z (b .rows) (b .desks
   none-waiting = rw end-is (at-end .none)
 
   pub none-unfetched : unfetched (after z b (clearingBy w b)) ≡ 0
-  none-unfetched = rw end-is (total-none unfetchedBy (end .desks) idle (λ d. free-fetched (deskAt end d) (end-free d)))
+  none-unfetched = rw end-is (free-held one (end .desks) end-free)
 
   -- a row leaves once, unless it had gone and no desk held it unfetched
   leaves-once : (n : ℕ) → n < length (b .rows) → times n (leaves z b (clearingBy w b)) + (only n) .gone (b .rows) ≡ held ((only n) .weight) (b .desks) + 1
@@ -202,14 +186,22 @@ module _ (z : Size) (ss : List Step) where
   -- a row that a desk holds unfetched is gone, and no two desks hold one
   held-gone : (n : ℕ) → held ((only n) .weight) (reached .desks) ≤ (only n) .gone (reached .rows)
   unfolding only opened
-  held-gone n = omega (arith, (opened-kept z ss) .tallied (only n), total-replicate (heldBy ((only n) .weight)) (z .t) idle (omega arith))
+  held-gone n = omega (arith, (opened-kept z ss) .tallied (only n), total-replicate (unfetchedBy ((only n) .weight)) (z .t) idle refl)
+
+  -- so such a row is on the list
+  held-in : (n : ℕ) → timesHeld n reached ≡ 1 → n < length (reached .rows)
+  unfolding only
+  held-in n e =
+      cases (n <ᵇ length (reached .rows)) (λ t. ltb→lt n (length (reached .rows)) t) (λ t. absurd (
+      let past = List·getD-eq-default (reached .rows) (record { label = 0; gone = false }) {n = n} (nltb→le n (length (reached .rows)) t) in
+      omega (arith, held-gone n, waits-none n (reached .rows) (ap (λ (r : Row). r .gone) past))))
 
   module _ (h : T (fits z)) where
     pub reached-most : waiting reached ≤ z .nb * z .ne
     reached-most = waiting-most z (limits z h .ne) reached reached-fronts (omega (arith, limits z h .nb))
 
 pub nothing-stuck : NothingStuck
-unfolding NothingStuck clearing emptying
+unfolding NothingStuck clearing emptying only
 nothing-stuck z ss h =
     let b = reached z ss in
     let w = waiting b in
@@ -222,9 +214,7 @@ nothing-stuck z ss h =
       empty = clearing-ends z v b fair f w enough;
       none = none-waiting z v b fair f w enough;
       waited = λ n i q. omega (arith, leaves-once z v b fair f w enough n i, held-gone z ss n, waits-none n (b .rows) q);
-      unfetched = λ d n e.
-          let i : n < length (b .rows) = rw e at (fair .within d) in
-          omega (arith, leaves-once z v b fair f w enough n i, held-gone z ss n, claimed-held n (b .desks) d e, gone-most n (b .rows));
+      unfetched = λ n e. omega (arith, leaves-once z v b fair f w enough n (held-in z ss n e), held-gone z ss n, e, gone-most n (b .rows));
       next = next-placed z v b fair f w enough;
     }
 

@@ -8,20 +8,20 @@ use mathlib.Core.Bool.{Bool, true, false, not, _&&_}
 use mathlib.Core.List.{List, [], _∷_, _++_, map, map-append}
 use Prim.Native.Nat.{ℕ, zero, suc, _+_, _-_, _*_, _/_, _≤_, _<_}
 use native.Mathlib.Omega.{arith}
-use lib.Dec.{eqb, eqb→eq, nleb→lt}
+use lib.Dec.{T, eqb, eqb→eq}
 use lib.ListN.{length, getD, set, length-replicate, length-set, length-append, List·getD-append}
 use lib.Seq.{getD-set-same, getD-set-other}
 use Rattle.book.specs.Choice.{if_then_else_, _<ᵇ_, _≤ᵇ_, _≡ᵇ_}
 use Rattle.book.specs.Total.{total}
 use Rattle.book.specs.Sizes.{Size, isOrder, isUsed, isOwned, currentTurn}
-use Rattle.book.specs.Steps.{Step, DeskStep, look, claim, fetch, finish, Deed, put, get, order, desk, unlisted, decode, Desk, idle, looked, claimed, fetched, carried}
-use Rattle.book.specs.Verdicts.{Verdict, judge, stage, column, atStage, noBlock, admitted, lookable}
+use Rattle.book.specs.Steps.{Step, DeskStep, Deed, put, get, order, desk, unlisted, decode, Hold, Desk, idle, looked, holding, claimedAt, withFetched, isFetched}
 use Rattle.book.specs.Book.{Row, Book, Outcome, refuse, rowAt, deskAt, withDesk, append, markGone, putTurn, rowOf, first, waits, mayPut, putStep, putMany, orderStep, readTurn}
-use Rattle.book.specs.Book.{getAt, getStep, lookStep, winnable, claimStep, fetchStep, finishStep, deskDoes, deskStep, does, step, opened, answers, after, leaves}
-use Rattle.book.specs.Counts.{count, placed, got, took, unfetchedBy, waitsBy, handed}
+use Rattle.book.specs.Book.{getAt, getStep, winnable, deskStep, does, step, opened, answers, after, leaves}
+use Rattle.book.specs.Counts.{count, placed, got, took, unfetchedBy, isRow, waitsBy, handed}
 use Rattle.book.specs.Demands.{Counting, Placed, NeverTwice}
 use Rattle.book.proofs.Choice.{by-test, by-verdict, cases, T→true, not→false, and-first, and-second, neq-test, eqb-same}
 use Rattle.book.proofs.Total.{total-append, total-set, total-cong, total-replicate, replicate-at}
+use Rattle.book.proofs.DeskKinds.{Free, desk-kind}
 use Rattle.book.proofs.Rows.{first-waits, first-in, row-append, mark-length, mark-other, mark-same, mark-label}
 
 -- ---- the tallies: every row alike, and one row alone
@@ -58,7 +58,7 @@ gone-waiting (r ∷ rs) =
 
 unfoldable pub only : ℕ → Tally
 only n = record {
-  weight = λ r. if r ≡ᵇ n then 1 else 0;
+  weight = isRow n;
   gone = λ rs. goneBy (rowAt rs n);
   mark = λ rs m h w.
       cases (eqb m n)
@@ -73,15 +73,16 @@ only n = record {
 abbrev pub reach : Desk ℕ → ℕ
 reach idle = 0
 reach (looked r) = suc r
-reach (claimed r) = suc r
-reach (fetched r) = suc r
+reach (holding h) = suc (h .at)
 
--- the weight of the row that a desk holds unfetched, and of all those
-abbrev pub heldBy : (ℕ → ℕ) → Desk ℕ → ℕ
-heldBy w x = unfetchedBy x * w (carried 0 x)
-
+-- the weight of the rows that desks hold unfetched
 abbrev pub held : (ℕ → ℕ) → List (Desk ℕ) → ℕ
-held w ds = total (heldBy w) ds
+held w ds = total (unfetchedBy w) ds
+
+pub free-unfetched : (w : ℕ → ℕ) (x : Desk ℕ) → Free x → unfetchedBy w x ≡ 0
+free-unfetched w idle f = refl
+free-unfetched w (looked r) f = refl
+free-unfetched w (holding h) f = absurd f
 
 -- f gives the label of every row on the list
 abbrev pub Reads : (ℕ → ℕ) → List Row → Type 0
@@ -191,9 +192,6 @@ module _ (z : Size) where
 
     -- ---- the steps of desk d
 
-    abbrev Judged : Outcome → Verdict → Type 0
-    Judged o v = Owes 0 b (judge v o (refuse b))
-
     module _ (d : ℕ) (h : d < z .t) where
       fair-set : (y : Desk ℕ) → reach y ≤ length (b .rows) → Fair (b .rows) (set (b .desks) d y)
       fair-set y i = record {
@@ -206,61 +204,39 @@ module _ (z : Size) where
 
       -- the desk becomes y, and no row changes
       becomes : (y : Desk ℕ) {g : ℕ} {ls l : List ℕ} → reach y ≤ length (b .rows) → Hands (b .rows) g ls l
-          → ((w : ℕ → ℕ) → total w l + heldBy w y ≡ heldBy w (deskAt b d)) → Kept b 0 (withDesk b d y) 0 g ls l
-      becomes y i g o = of-desks b (b .k) 0 (set (b .desks) d y) (fair-set y i) g (λ w. omega (arith, total-set (heldBy w) (b .desks) d y idle (omega arith), o w))
+          → ((w : ℕ → ℕ) → total w l + unfetchedBy w y ≡ unfetchedBy w (deskAt b d)) → Kept b 0 (withDesk b d y) 0 g ls l
+      becomes y i g o = of-desks b (b .k) 0 (set (b .desks) d y) (fair-set y i) g (λ w. omega (arith, total-set (unfetchedBy w) (b .desks) d y idle (omega arith), o w))
 
-      look-kept : (i : ℕ) → unfetchedBy (deskAt b d) ≡ 0 → Owes 0 b (lookStep z b d i)
-      unfolding lookStep lookable total
-      look-kept i u =
-          let p = putTurn z (b .rows) in
-          let t = currentTurn z p i in
-          by-test (Judged _) (isOwned z p (b .k) i) (λ _. refused) (λ _.
-          by-test (Judged _) (isUsed z p i && waits z (b .rows) t)
-          (λ v. becomes (looked (rowOf z t (first z (b .rows) t))) (first-in z (b .rows) t (and-second (isUsed z p i) (waits z (b .rows) t) v)) (none (b .rows)) (λ w. rw u (omega arith)))
-          (λ _. refused))
+      -- a desk that holds nothing unfetched comes to hold nothing
+      lets-go : (y : Desk ℕ) → reach y ≤ length (b .rows) → ((w : ℕ → ℕ) → unfetchedBy w y ≡ 0) → ((w : ℕ → ℕ) → unfetchedBy w (deskAt b d) ≡ 0) → Kept b 0 (withDesk b d y) 0 0 [] []
+      unfolding total
+      lets-go y i n o = becomes y i (none (b .rows)) (λ w. omega (arith, n w, o w))
 
-      claim-kept : (r : ℕ) → deskAt b d ≡ looked r → Owes 0 b (claimStep z b d r)
-      unfolding claimStep winnable total
-      claim-kept r e =
+      wins : (r : ℕ) → deskAt b d ≡ looked r → T (winnable z (b .rows) (b .k) r)
+          → Kept b 0 (record { rows = markGone (b .rows) r; k = b .k; desks = set (b .desks) d (holding (claimedAt r)) }) 0 0 [] []
+      unfolding winnable total
+      wins r e t =
           let i : r < length (b .rows) = rw e at (f .within d) in
           let g = (rowAt (b .rows) r) .gone in
-          by-test (Owes 0 b) (winnable z (b .rows) (b .k) r)
-          (λ t. of-mark b r (b .k) 0 (set (b .desks) d (claimed r)) i (not→false g (and-first (not g) (b .k <ᵇ r / z .ne) t)) (fair-set (claimed r) i) (none (b .rows))
-          (λ w. omega (arith, total-set (heldBy w) (b .desks) d (claimed r) idle (omega arith), ap (heldBy w) e)))
-          (λ _. becomes idle (omega arith) (none (b .rows)) (λ w. rw e (omega arith)))
+          let x = holding (claimedAt r) in
+          of-mark b r (b .k) 0 (set (b .desks) d x) i (not→false g (and-first (not g) (b .k <ᵇ r / z .ne) t)) (fair-set x i) (none (b .rows))
+          (λ w. omega (arith, total-set (unfetchedBy w) (b .desks) d x idle (omega arith), ap (unfetchedBy w) e))
 
-      fetch-kept : (r : ℕ) → deskAt b d ≡ claimed r → Owes 0 b (fetchStep z b d r)
-      unfolding fetchStep total
-      fetch-kept r e = let i : r < length (b .rows) = rw e at (f .within d) in becomes (fetched r) i (single (b .rows) r i) (λ w. rw e (omega arith))
-
-      finish-kept : (r : ℕ) → deskAt b d ≡ fetched r → Owes 0 b (finishStep z b d)
-      unfolding finishStep total
-      finish-kept r e = becomes idle (omega arith) (none (b .rows)) (λ w. rw e (omega arith))
-
-      -- of the grid's 16, five are taken
-      grid-kept : (x : Desk ℕ) (s : DeskStep) → deskAt b d ≡ x → Judged (deskDoes z b d (carried 0 x) s) (atStage (stage x) (column s))
-      unfolding deskDoes
-      grid-kept idle (look i) e = look-kept i (ap unfetchedBy e)
-      grid-kept idle claim e = refused
-      grid-kept idle fetch e = refused
-      grid-kept idle finish e = refused
-      grid-kept (looked r) (look i) e = look-kept i (ap unfetchedBy e)
-      grid-kept (looked r) claim e = claim-kept r e
-      grid-kept (looked r) fetch e = refused
-      grid-kept (looked r) finish e = refused
-      grid-kept (claimed r) (look i) e = refused
-      grid-kept (claimed r) claim e = refused
-      grid-kept (claimed r) fetch e = fetch-kept r e
-      grid-kept (claimed r) finish e = refused
-      grid-kept (fetched r) (look i) e = refused
-      grid-kept (fetched r) claim e = refused
-      grid-kept (fetched r) fetch e = refused
-      grid-kept (fetched r) finish e = finish-kept r e
+      fetches : (x : Hold ℕ) → deskAt b d ≡ holding x → T (not (isFetched x)) → Kept b 0 (withDesk b d (holding (withFetched x))) 0 1 ((rowAt (b .rows) (x .at)) .label ∷ []) (x .at ∷ [])
+      unfolding total
+      fetches x e u =
+          let i : x .at < length (b .rows) = rw e at (f .within d) in
+          becomes (holding (withFetched x)) i (single (b .rows) (x .at) i) (λ w. rw (e, not→false (isFetched x) u) (omega arith))
 
     desk-kept : (d : ℕ) (s : DeskStep) → Owes 0 b (deskStep z b d s (deskAt b d))
-    unfolding deskStep admitted
-    desk-kept d s =
-        by-test (Judged _) (z .t ≤ᵇ d) (λ _. refused) (λ t. by-test (Judged _) (noBlock z s) (λ _. refused) (λ _. grid-kept d (nleb→lt (z .t) d t) (deskAt b d) s refl))
+    desk-kept = desk-kind z b (Owes 0 b) (record {
+      refused = λ w _. refused;
+      seen = λ d t i free k v. lets-go d i _ (first-in z (b .rows) t v) (λ w. refl) (λ w. free-unfetched w (deskAt b d) free);
+      won = λ d r i e w. wins d i r e w;
+      lost = λ d r i e n. lets-go d i idle (omega arith) (λ w. refl) (λ w. ap (unfetchedBy w) e);
+      took = λ d x i e u. fetches d i x e u;
+      done = λ d x i e g. lets-go d i idle (omega arith) (λ w. refl) (λ w. rw (e, T→true (isFetched x) g) refl);
+    })
 
     -- ---- every step, every run
 
@@ -307,8 +283,7 @@ unfolding Counting opened every total
 counting z ss =
     let b = after z (opened z) ss in
     let r = opened-kept z ss in
-    let same = total-cong (heldBy one) unfetchedBy (λ x. omega arith) (b .desks) in
-    omega (arith, r .grown, r .tallied every, r .hands .many, total-replicate (heldBy one) (z .t) idle refl, gone-waiting (b .rows))
+    omega (arith, r .grown, r .tallied every, r .hands .many, total-replicate (unfetchedBy one) (z .t) idle refl, gone-waiting (b .rows))
 
 pub placed-rows : Placed
 unfolding Placed opened
@@ -318,4 +293,4 @@ pub never-twice : NeverTwice
 unfolding NeverTwice opened only
 never-twice z ss n =
     let most = by-test {A = ℕ} (λ m. m ≤ 1) ((rowAt ((after z (opened z) ss) .rows) n) .gone) {x = 1} {y = 0} (λ _. omega arith) (λ _. omega arith) in
-    omega (arith, (opened-kept z ss) .tallied (only n), total-replicate (heldBy ((only n) .weight)) (z .t) idle (omega arith))
+    omega (arith, (opened-kept z ss) .tallied (only n), total-replicate (unfetchedBy (isRow n)) (z .t) idle refl)

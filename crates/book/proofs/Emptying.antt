@@ -18,7 +18,7 @@ use Rattle.book.specs.Sizes.{Size}
 use Rattle.book.specs.Steps.{decode}
 use Rattle.book.specs.Book.{Row, Book, Outcome, rowAt, markGone, putTurn, rowOf, first, waits, getAt, getStep, does, step, answers, after}
 use Rattle.book.specs.Counts.{waitsBy, waiting}
-use Rattle.book.specs.Cases.{get}
+use Rattle.book.specs.Messages.{get}
 use Rattle.book.proofs.Choice.{by-test, cases, T→true, not→false}
 use Rattle.book.proofs.Total.{total-set, total-le}
 use Rattle.book.proofs.Turns.{div-mono}

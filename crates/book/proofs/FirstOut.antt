@@ -6,10 +6,9 @@ use native.Mathlib.Omega.{arith}
 use lib.Dec.{T, ltb, eqb, ltb→lt, lt→ltb, nltb→le, eqb→eq}
 use lib.ListN.{length, getD, set, take, length-map}
 use Rattle.book.specs.Choice.{_<ᵇ_}
-use Rattle.book.specs.Total.{total}
+use Rattle.book.specs.Total.{total, upFrom}
 use Rattle.book.specs.Sizes.{Size, isOrder}
 use Rattle.book.specs.Steps.{Step, DeskStep, Deed, put, get, order, desk, unlisted, decode, Desk, idle}
-use Rattle.book.specs.Decoding.{upFrom}
 use Rattle.book.specs.Book.{Row, Book, Outcome, rowAt, deskAt, append, markGone, rowOf, first, waits, mayPut, putStep, putMany, orderStep, getAt, getStep, deskStep, does, step, opened, answers, after, leaves}
 use Rattle.book.specs.Counts.{count, got, won}
 use Rattle.book.specs.Demands.{Counting, Placed, Handed}
@@ -52,12 +51,12 @@ module _ (z : Size) where
 
     desk-goes : (d : ℕ) (s : DeskStep) → Goes (deskStep z b d s (deskAt b d))
     desk-goes = desk-kind z b Goes (record {
-      refused = λ w. quiet _ refl refl (λ n. refl) (c .desks);
-      seen = λ d t w. quiet _ refl refl (λ n. refl) (by-desk d _ tt);
-      won = λ d r e w h. absurd (omega arith);
-      lost = λ d. quiet _ refl refl (λ n. refl) (by-desk d idle tt);
-      took = λ d r e. absurd (rw e at (c .desks d));
-      done = λ d r e. absurd (rw e at (c .desks d));
+      refused = λ _ _. quiet _ refl refl (λ n. refl) (c .desks);
+      seen = λ d _ _ _ _ _. quiet _ refl refl (λ n. refl) (by-desk d _ tt);
+      won = λ _ _ _ _ _ h. absurd (omega arith);
+      lost = λ d _ _ _ _. quiet _ refl refl (λ n. refl) (by-desk d idle tt);
+      took = λ d _ _ e _. absurd (rw e at (c .desks d));
+      done = λ d _ _ e _. absurd (rw e at (c .desks d));
     })
 
     -- a get hands over row g: it waits, and all rows before it are gone

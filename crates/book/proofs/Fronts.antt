@@ -15,7 +15,7 @@ use Rattle.words.specs.declared.Refusal.{Refusal}
 use Rattle.book.specs.Choice.{_<ᵇ_, _≤ᵇ_}
 use Rattle.book.specs.Sizes.{Size, isLabel, isOrder, roundOf}
 use Rattle.book.specs.Verdicts.{Verdict, judge, startable, placeable}
-use Rattle.book.specs.Steps.{Step, DeskStep, Deed, put, get, order, desk, unlisted, decode, Desk, idle, looked, claimed, fetched}
+use Rattle.book.specs.Steps.{Step, DeskStep, Deed, put, get, order, desk, unlisted, decode, Desk, idle, looked, holding, claimedAt, withFetched}
 use Rattle.book.specs.Book.{Row, Book, Outcome, rowAt, deskAt, append, markGone, goneBefore, putTurn, rowOf, rowsOf, written, first, waits, isBusy, mayPut, putStep, putMany, orderStep, readTurn}
 use Rattle.book.specs.Book.{getAt, getStep, deskStep, does, step, opened, after}
 use Rattle.book.proofs.Choice.{by-test, cases, T→true, true-not-false, neq-test}
@@ -62,8 +62,7 @@ module _ (z : Size) where
   abbrev Seen : List Row → Desk ℕ → Type 0
   Seen rs idle = Unit {0}
   Seen rs (looked r) = Before rs r
-  Seen rs (claimed r) = Unit {0}
-  Seen rs (fetched r) = Unit {0}
+  Seen rs (holding h) = Unit {0}
 
   pub record Fronts (b : Book) : Type 0 where
     pub reached : b .k ≤ putTurn z (b .rows)
@@ -110,8 +109,7 @@ module _ (z : Size) where
   seen-still : (rs qs : List Row) → ((n : ℕ) → Gone rs n → Gone qs n) → (x : Desk ℕ) → Seen rs x → Seen qs x
   seen-still rs qs g idle s = tt
   seen-still rs qs g (looked r) s = λ m h e. g m (s m h e)
-  seen-still rs qs g (claimed r) s = tt
-  seen-still rs qs g (fetched r) s = tt
+  seen-still rs qs g (holding h) s = tt
 
   module _ (b : Book) (f : Fronts b) where
     stays : Grows b b
@@ -219,12 +217,12 @@ module _ (z : Size) where
 
     desk-grows : (d : ℕ) (s : DeskStep) → Grows b ((deskStep z b d s (deskAt b d)) .book)
     desk-grows = desk-kind z b (λ o. Grows b (o .book)) (record {
-      refused = λ w. stays b f;
-      seen = λ d t w. of-desk b f d (looked (rowOf z t (first z (b .rows) t))) (first-before (b .rows) t w);
-      won = λ d r e w. grows-on b _ _ (of-mark b f r (rw e at (f .seen d))) (of-desk _ ((of-mark b f r (rw e at (f .seen d))) .fronts) d (claimed r) tt);
-      lost = λ d. of-desk b f d idle tt;
-      took = λ d r e. of-desk b f d (fetched r) tt;
-      done = λ d r e. of-desk b f d idle tt;
+      refused = λ w _. stays b f;
+      seen = λ d t _ _ _ w. of-desk b f d (looked (rowOf z t (first z (b .rows) t))) (first-before (b .rows) t w);
+      won = λ d r _ e _. grows-on b _ _ (of-mark b f r (rw e at (f .seen d))) (of-desk _ ((of-mark b f r (rw e at (f .seen d))) .fronts) d (holding (claimedAt r)) tt);
+      lost = λ d _ _ _ _. of-desk b f d idle tt;
+      took = λ d x _ _ _. of-desk b f d (holding (withFetched x)) tt;
+      done = λ d _ _ _ _. of-desk b f d idle tt;
     })
 
     -- ---- put: the label's row is of turn P, or of turn P + 1 where that may be started

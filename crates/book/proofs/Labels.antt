@@ -11,7 +11,7 @@ use lib.Seq.{map-set-same}
 use Rattle.book.specs.Choice.{if_then_else_, _≡ᵇ_}
 use Rattle.book.specs.Sizes.{Size, within, isOrder}
 use Rattle.book.specs.Steps.{Step, Deed, put, get, order, desk, unlisted, decode}
-use Rattle.book.specs.Decoding.{upFrom}
+use Rattle.book.specs.Total.{upFrom}
 use Rattle.book.specs.Book.{Row, Book, Outcome, rowAt, append, markGone, waits, mayPut, putStep, putMany, orderStep, getAt, getStep, does, step, opened, answers, after}
 use Rattle.book.specs.Counts.{count}
 use Rattle.book.specs.Order.{placedLabels, gotLabels, gotRows, PlacedInOrder, GotInOrder}
@@ -85,12 +85,12 @@ module _ (z : Size) where
   does-places b (desk d s) a h =
       let same = sym (append-nil (labelsOf (b .rows))) in
       desk-kind z b (Places a b) (record {
-        refused = λ w. same;
-        seen = λ d t w. same;
-        won = λ d r e w. labels-mark (b .rows) r ∙ same;
-        lost = λ d. same;
-        took = λ d r e. same;
-        done = λ d r e. same;
+        refused = λ _ _. same;
+        seen = λ _ _ _ _ _ _. same;
+        won = λ _ r _ _ _. labels-mark (b .rows) r ∙ same;
+        lost = λ _ _ _ _ _. same;
+        took = λ _ _ _ _ _. same;
+        done = λ _ _ _ _ _. same;
       }) d s
   does-places b unlisted a h = sym (append-nil (labelsOf (b .rows)))
 

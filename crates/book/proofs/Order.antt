@@ -11,7 +11,7 @@ use lib.ListN.{length}
 use Rattle.book.specs.Choice.{_≡ᵇ_}
 use Rattle.book.specs.Sizes.{Size}
 use Rattle.book.specs.Steps.{Step, decode}
-use Rattle.book.specs.Decoding.{upFrom}
+use Rattle.book.specs.Total.{upFrom}
 use Rattle.book.specs.Book.{Row, Book, Outcome, rowAt, rowOf, first, waits, getAt, getStep, does, step, opened}
 use Rattle.book.specs.Order.{filter, wentBy, wentRows, gotRows, GetsInOrder, GoesInOrder}
 use Rattle.book.proofs.Choice.{by-test, cases, T→true, not→false, true-not-false, and-first, and-second, neq-test}

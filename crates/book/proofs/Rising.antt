@@ -8,7 +8,7 @@ use native.Mathlib.Omega.{arith}
 use lib.Dec.{T}
 use lib.ListN.{length, getD, take, drop}
 use lib.Seq.{drop-cons, drop-nil}
-use Rattle.book.specs.Decoding.{upFrom}
+use Rattle.book.specs.Total.{upFrom}
 use Rattle.book.specs.Order.{Increasing, filter}
 use Rattle.book.proofs.Choice.{by-test, cases, choose-true, choose-false}
 

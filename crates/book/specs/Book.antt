@@ -12,7 +12,7 @@ use Rattle.book.specs.Choice.{if_then_else_, _<ᵇ_, _≡ᵇ_}
 use Rattle.book.specs.Total.{any}
 use Rattle.book.specs.Sizes.{Size, fits, isOrder, currentTurn}
 use Rattle.book.specs.Steps.{Step, DeskStep, look, claim, fetch, finish, Deed, put, get, order, desk, unlisted, decode}
-use Rattle.book.specs.Steps.{Desk, idle, looked, claimed, fetched, carried}
+use Rattle.book.specs.Steps.{Hold, Desk, idle, looked, holding, claimedAt, withFetched, holdOf}
 use Rattle.book.specs.Verdicts.{Verdict, judge, admitted, lookable, placeable}
 
 -- a row is waiting or gone
@@ -90,14 +90,15 @@ module _ (z : Size) where
   unfoldable pub heldIn : ℕ → Desk ℕ → Bool
   heldIn q idle = false
   heldIn q (looked r) = false
-  heldIn q (claimed r) = r / z .ne ≡ᵇ q
-  heldIn q (fetched r) = r / z .ne ≡ᵇ q
+  heldIn q (holding h) = h .at / z .ne ≡ᵇ q
 
   unfoldable pub isBusy : Book → ℕ → Bool
   isBusy b q = any (heldIn q) (b .desks)
 
   unfoldable pub mayPut : Book → ℕ → Verdict
-  mayPut b a = placeable z (putTurn (b .rows)) (written (b .rows) (putTurn (b .rows))) (b .k) (isBusy b) a
+  mayPut b a =
+      let p = putTurn (b .rows) in
+      placeable z p (written (b .rows) p) (b .k) (isBusy b (p + 1 - z .nb)) a
 
   unfoldable pub putStep : Book → ℕ → Outcome
   putStep b a = judge (mayPut b a) (says (append b a) (Put a)) (refuse b)
@@ -146,24 +147,24 @@ module _ (z : Size) where
   unfoldable pub claimStep : Book → ℕ → ℕ → Outcome
   claimStep b d r =
       if winnable (b .rows) (b .k) r
-      then says (record { rows = markGone (b .rows) r; k = b .k; desks = set (b .desks) d (claimed r) }) (Claimed (r % z .ne))
+      then says (record { rows = markGone (b .rows) r; k = b .k; desks = set (b .desks) d (holding (claimedAt r)) }) (Claimed (r % z .ne))
       else says (withDesk b d idle) (Refused Lost 0)
 
-  unfoldable pub fetchStep : Book → ℕ → ℕ → Outcome
-  fetchStep b d r = hands (withDesk b d (fetched r)) (Took ((rowAt (b .rows) r) .label)) r
+  unfoldable pub fetchStep : Book → ℕ → Hold ℕ → Outcome
+  fetchStep b d h = hands (withDesk b d (holding (withFetched h))) (Took ((rowAt (b .rows) (h .at)) .label)) (h .at)
 
   unfoldable pub finishStep : Book → ℕ → Outcome
   finishStep b d = says (withDesk b d idle) Done
 
-  -- the step of desk d, which the grid lets it take, with the row that it carries
-  unfoldable pub deskDoes : Book → ℕ → ℕ → DeskStep → Outcome
-  deskDoes b d r (look i) = lookStep b d i
-  deskDoes b d r claim = claimStep b d r
-  deskDoes b d r fetch = fetchStep b d r
-  deskDoes b d r finish = finishStep b d
+  -- the step of desk d, which the grid lets it take, with what it holds, or saw
+  unfoldable pub deskDoes : Book → ℕ → Hold ℕ → DeskStep → Outcome
+  deskDoes b d h (look i) = lookStep b d i
+  deskDoes b d h claim = claimStep b d (h .at)
+  deskDoes b d h fetch = fetchStep b d h
+  deskDoes b d h finish = finishStep b d
 
   unfoldable pub deskStep : Book → ℕ → DeskStep → Desk ℕ → Outcome
-  deskStep b d s x = judge (admitted z d s x) (deskDoes b d (carried 0 x) s) (refuse b)
+  deskStep b d s x = judge (admitted z d s x) (deskDoes b d (holdOf 0 x) s) (refuse b)
 
   -- ---- a step, and runs
 

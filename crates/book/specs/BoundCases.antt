@@ -8,7 +8,8 @@ use Rattle.words.specs.declared.Refusal.the-variants.{Lost, Empty}
 use Rattle.book.specs.Sizes.{Size}
 use Rattle.book.specs.Book.{fromOpening}
 use Rattle.book.specs.Counts.{placed, won, lost, bound}
-use Rattle.book.specs.Cases.{Case, put, get, order, claim, fetch, finish, look, _⇒_, no, on}
+use Rattle.book.specs.Messages.{put, get, order, claim, fetch, finish, look}
+use Rattle.book.specs.Cases.{Case, _⇒_, no, on}
 
 pub record Numbers : Type 0 where
   pub placed : ℕ

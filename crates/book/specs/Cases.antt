@@ -7,8 +7,9 @@ use Rattle.words.specs.declared.Answer.{Answer}
 use Rattle.words.specs.declared.Answer.the-variants.{Put, Got, Took, Whole, Seen, Claimed, Done, Refused}
 use Rattle.words.specs.declared.Refusal.{Refusal}
 use Rattle.words.specs.declared.Refusal.the-variants.{Unfit, Badstep, Nodesk, Noblock, Stage, Owned, Nothing, Lost, Notlabel, Range, Full, Busy, Empty}
-use Rattle.book.specs.Sizes.{Size}
+use Rattle.book.specs.Sizes.{Size, sized}
 use Rattle.book.specs.Steps.{Step}
+use Rattle.book.specs.Messages.{raw, put, get, order, claim, fetch, finish, look, most}
 use Rattle.book.specs.Book.{fromOpening}
 
 infix 68 _⇒_
@@ -16,37 +17,6 @@ pub record Case : Type 0 where
   pub size : Size
   pub steps : List Step
   pub answers : List Answer
-
--- ---- steps by their codes
-
-abbrev pub raw : ℕ → ℕ → ℕ → Step
-raw c a b = record { code = c; a = a; b = b }
-
-abbrev pub put : ℕ → Step
-put a = raw 0 a 0
-
-abbrev pub get : Step
-get = raw 1 0 0
-
-abbrev pub order : ℕ → ℕ → Step
-order a e = raw 2 a e
-
-abbrev pub claim : ℕ → Step
-claim d = raw (16 + d) 0 0
-
-abbrev pub fetch : ℕ → Step
-fetch d = raw (32 + d) 0 0
-
-abbrev pub finish : ℕ → Step
-finish d = raw (48 + d) 0 0
-
--- look by desk d at block i
-abbrev pub look : ℕ → ℕ → Step
-look d i = raw (64 + d) i 0
-
--- the largest number that a message can carry
-abbrev pub most : ℕ
-most = 4294967295
 
 -- ---- a case is written as its steps, each with its answer
 
@@ -64,9 +34,6 @@ no w = Refused w 0
 abbrev pub gets : ℕ → ℕ → List Exchange → List Exchange
 gets zero a l = l
 gets (suc n) a l = (get ⇒ Got a) ∷ gets n (suc a) l
-
-abbrev pub sized : ℕ → ℕ → ℕ → Size
-sized nb ne t = record { nb = nb; ne = ne; t = t }
 
 -- NB, NE, T and the run
 abbrev pub on : ℕ → ℕ → ℕ → List Exchange → Case

@@ -10,11 +10,12 @@ use lib.ListN.{length, replicate}
 use Rattle.words.specs.declared.Answer.{Answer}
 use Rattle.words.specs.declared.Answer.the-variants.{Put, Refused}
 use Rattle.words.specs.declared.Refusal.the-variants.{Worn, Busy, Empty}
+use Rattle.book.specs.Choice.{if_then_else_}
 use Rattle.book.specs.Sizes.{Size, fits, isLabel, roundOf}
-use Rattle.book.specs.Steps.{Step, Desk, idle, looked, claimed, fetched}
+use Rattle.book.specs.Steps.{Step, Desk, idle, looked, holding, isFetched}
 use Rattle.book.specs.Book.{Book, rowAt, deskAt, putTurn, heldIn, step, opened, answers, after, leaves}
-use Rattle.book.specs.Counts.{waiting, times}
-use Rattle.book.specs.Cases.{put, get, fetch, finish}
+use Rattle.book.specs.Counts.{waiting, times, timesHeld}
+use Rattle.book.specs.Messages.{put, get, fetch, finish}
 
 -- ---- the run that clears a line
 
@@ -22,8 +23,7 @@ use Rattle.book.specs.Cases.{put, get, fetch, finish}
 abbrev pub settles : {A : Type 0} → ℕ → Desk A → List Step
 settles d idle = []
 settles d (looked x) = []
-settles d (claimed x) = fetch d ∷ finish d ∷ []
-settles d (fetched x) = finish d ∷ []
+settles d (holding h) = if isFetched h then finish d ∷ [] else fetch d ∷ finish d ∷ []
 
 -- so each desk in turn, from desk d on
 unfoldable pub settling : {A : Type 0} → ℕ → List (Desk A) → List Step
@@ -62,7 +62,7 @@ pub record Clears (z : Size) (b : Book) : Type 0 where
   pub none : waiting (after z b (clearing b)) ≡ 0
   -- each row that waited has left, once; and so has each that a desk had claimed and not fetched
   pub waited : (n : ℕ) → n < length (b .rows) → (rowAt (b .rows) n) .gone ≡ false → times n (leaves z b (clearing b)) ≡ 1
-  pub unfetched : (d n : ℕ) → deskAt b d ≡ claimed n → times n (leaves z b (clearing b)) ≡ 1
+  pub unfetched : (n : ℕ) → timesHeld n b ≡ 1 → times n (leaves z b (clearing b)) ≡ 1
   -- the next label is placed, or the line is worn
   pub next : (a : ℕ) → T (isLabel a) → IsPlaced z (after z b (clearing b)) a ⊎ IsWorn z (after z b (clearing b)) a
 

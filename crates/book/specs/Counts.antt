@@ -7,7 +7,7 @@ use Rattle.words.specs.Words.{said}
 use Rattle.book.specs.Choice.{if_then_else_, _≡ᵇ_}
 use Rattle.book.specs.Total.{total}
 use Rattle.book.specs.Sizes.{Size}
-use Rattle.book.specs.Steps.{Desk, idle, looked, claimed, fetched}
+use Rattle.book.specs.Steps.{Desk, idle, looked, holding, isFetched}
 use Rattle.book.specs.Book.{Row, Book}
 
 -- what one answer adds: labels placed, got and fetched, claims won and lost; and the labels that it hands over
@@ -48,15 +48,21 @@ won l = total (λ a. (count a) .won) l
 abbrev pub lost : List Answer → ℕ
 lost l = total (λ a. (count a) .lost) l
 
--- claimed and not fetched
-abbrev pub unfetchedBy : Desk ℕ → ℕ
-unfetchedBy idle = 0
-unfetchedBy (looked r) = 0
-unfetchedBy (claimed r) = 1
-unfetchedBy (fetched r) = 0
+-- the rows that a desk has claimed and not fetched, row r weighing w r
+abbrev pub unfetchedBy : (ℕ → ℕ) → Desk ℕ → ℕ
+unfetchedBy w idle = 0
+unfetchedBy w (looked r) = 0
+unfetchedBy w (holding h) = if isFetched h then 0 else w (h .at)
 
+-- how many rows desks have claimed and not fetched; and how often row n is among them
 abbrev pub unfetched : Book → ℕ
-unfetched b = total unfetchedBy (b .desks)
+unfetched b = total (unfetchedBy (λ r. 1)) (b .desks)
+
+abbrev pub isRow : ℕ → ℕ → ℕ
+isRow n r = if r ≡ᵇ n then 1 else 0
+
+abbrev pub timesHeld : ℕ → Book → ℕ
+timesHeld n b = total (unfetchedBy (isRow n)) (b .desks)
 
 abbrev pub waitsBy : Row → ℕ
 waitsBy r = if r .gone then 0 else 1
@@ -71,7 +77,7 @@ handed (a ∷ l) = (count a) .labels ++ handed l
 
 -- how often row n stands in a list of rows
 abbrev pub times : ℕ → List ℕ → ℕ
-times n l = total (λ r. if r ≡ᵇ n then 1 else 0) l
+times n l = total (isRow n) l
 
 -- demand 3: so many claims may be lost; the last part is 0 when none is placed
 unfoldable pub bound : Size → ℕ → ℕ → ℕ

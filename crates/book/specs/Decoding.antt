@@ -1,14 +1,9 @@
 -- Every code that a byte can be, with A = 7 and B = 9: what it asks for.
 use mathlib.Core.Path.{_≡_}
 use mathlib.Core.List.{List, [], _∷_, _++_, map}
-use Prim.Native.Nat.{ℕ, zero, suc}
 use lib.ListN.{replicate}
+use Rattle.book.specs.Total.{upFrom}
 use Rattle.book.specs.Steps.{DeskStep, look, claim, fetch, finish, Deed, put, get, order, desk, unlisted, decode}
-
--- n numbers, from a on
-abbrev pub upFrom : ℕ → ℕ → List ℕ
-upFrom zero a = []
-upFrom (suc n) a = a ∷ upFrom n (suc a)
 
 -- by desk 0, by desk 1, and so on to desk 15
 abbrev pub byEach : DeskStep → List Deed

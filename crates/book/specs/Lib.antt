@@ -2,6 +2,7 @@ pub mod Choice
 pub mod Total
 pub mod Sizes
 pub mod Steps
+pub mod Messages
 pub mod Verdicts
 pub mod Book
 pub mod Counts

@@ -9,7 +9,7 @@ use Rattle.words.specs.declared.Answer.{Answer}
 use Rattle.book.specs.Choice.{if_then_else_, _≡ᵇ_}
 use Rattle.book.specs.Sizes.{Size}
 use Rattle.book.specs.Steps.{Step}
-use Rattle.book.specs.Decoding.{upFrom}
+use Rattle.book.specs.Total.{upFrom}
 use Rattle.book.specs.Book.{Row, Book, rowAt, step, opened, answers, after}
 use Rattle.book.specs.Counts.{count, got, won, handed}
 

@@ -11,7 +11,8 @@ use Rattle.book.specs.Steps.{Step}
 use Rattle.book.specs.Book.{opened, answers, after}
 use Rattle.book.specs.Order.{Increasing, filter, gotRows, wentRows, gotLabels, placedLabels}
 use Rattle.book.specs.Clearing.{clearing}
-use Rattle.book.specs.Cases.{Case, put, get, order, claim, fetch, finish, look, _⇒_, no, on}
+use Rattle.book.specs.Messages.{put, get, order, claim, fetch, finish, look}
+use Rattle.book.specs.Cases.{Case, _⇒_, no, on}
 
 pub record Lists : Type 0 where
   pub got : List ℕ

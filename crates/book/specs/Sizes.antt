@@ -9,14 +9,20 @@ pub record Size : Type 0 where
   pub ne : ℕ
   pub t : ℕ
 
+abbrev pub sized : ℕ → ℕ → ℕ → Size
+sized nb ne t = record { nb = nb; ne = ne; t = t }
+
 abbrev pub within : ℕ → ℕ → ℕ → Bool
 within low high n = low ≤ᵇ n && n ≤ᵇ high
 
 unfoldable pub fits : Size → Bool
 fits z = within 2 64 (z .nb) && within 1 64 (z .ne) && within 1 16 (z .t)
 
+abbrev pub highestLabel : ℕ
+highestLabel = 999999
+
 unfoldable pub isLabel : ℕ → Bool
-isLabel a = a ≤ᵇ 999999
+isLabel a = a ≤ᵇ highestLabel
 
 -- an order runs from first to last, both included
 unfoldable pub isOrder : ℕ → ℕ → Bool

@@ -1,7 +1,12 @@
 -- The steps: a code and two numbers, and what they ask for; and what a desk is.
+use mathlib.Core.Bool.{Bool, true, false}
 use Prim.Native.Nat.{ℕ, _-_}
 use Rattle.book.specs.Choice.{if_then_else_, _≡ᵇ_}
 use Rattle.book.specs.Sizes.{within}
+pub use Rattle.book.specs.declared.DeskStep.{DeskStep}
+pub use Rattle.book.specs.declared.DeskStep.the-variants.{Look as look, Claim as claim, Fetch as fetch, Finish as finish}
+pub use Rattle.book.specs.declared.Deed.{Deed}
+pub use Rattle.book.specs.declared.Deed.the-variants.{Put as put, Get as get, Order as order, Desk as desk, Unlisted as unlisted}
 
 -- as it arrives
 pub record Step : Type 0 where
@@ -9,18 +14,7 @@ pub record Step : Type 0 where
   pub a : ℕ
   pub b : ℕ
 
--- as it is meant: what a desk does, and what anybody does
-pub data DeskStep : Type 0 where
-  look : ℕ → DeskStep
-  claim fetch finish : DeskStep
-
-pub data Deed : Type 0 where
-  put : ℕ → Deed
-  get : Deed
-  order : ℕ → ℕ → Deed
-  desk : ℕ → DeskStep → Deed
-  unlisted : Deed
-
+-- as it is meant: what the owner does, and what a desk does
 unfoldable pub decode : Step → Deed
 decode s =
     if s .code ≡ᵇ 0 then put (s .a)
@@ -32,14 +26,31 @@ decode s =
     else if within 64 79 (s .code) then desk (s .code - 64) (look (s .a))
     else unlisted
 
--- A desk is idle, looked, claimed or fetched. All but idle carry where: in the book a row, in the line a turn and a place.
+-- What a desk holds from its claim to its finish: where, and whether the label there is fetched.
+pub record Hold (A : Type 0) : Type 0 where
+  pub at : A
+  pub fetched : Bool
+
+-- A desk is idle, has looked, or holds what it claimed; one that holds is claimed or fetched. All but idle carry where: in the
+-- book a row, in the line a turn and a place.
 pub data Desk (A : Type 0) : Type 0 where
   idle : Desk A
-  looked claimed fetched : A → Desk A
+  looked : A → Desk A
+  holding : Hold A → Desk A
 
 module _ {A : Type 0} where
-  abbrev pub carried : A → Desk A → A
-  carried d idle = d
-  carried d (looked x) = x
-  carried d (claimed x) = x
-  carried d (fetched x) = x
+  -- what a claim takes hold of, and what a fetch makes of it
+  abbrev pub claimedAt : A → Hold A
+  claimedAt x = record { at = x; fetched = false }
+
+  abbrev pub withFetched : Hold A → Hold A
+  withFetched h = record { at = h .at; fetched = true }
+
+  abbrev pub isFetched : Hold A → Bool
+  isFetched h = h .fetched
+
+  -- what a desk holds, or would by a claim of what it saw; d where it carries nothing
+  abbrev pub holdOf : A → Desk A → Hold A
+  holdOf d idle = claimedAt d
+  holdOf d (looked x) = claimedAt x
+  holdOf d (holding h) = h

@@ -1,7 +1,12 @@
--- Sums and searches over a list.
+-- Sums and searches over a list, and a list of numbers.
 use mathlib.Core.Bool.{Bool, true, false, _&&_, _||_}
 use mathlib.Core.List.{List, [], _∷_}
-use Prim.Native.Nat.{ℕ, _+_}
+use Prim.Native.Nat.{ℕ, zero, suc, _+_}
+
+-- n numbers, from a on
+abbrev pub upFrom : ℕ → ℕ → List ℕ
+upFrom zero a = []
+upFrom (suc n) a = a ∷ upFrom n (suc a)
 
 module _ {A : Type 0} where
   unfoldable pub total : (A → ℕ) → List A → ℕ

@@ -7,11 +7,9 @@ use Rattle.words.specs.declared.Refusal.{Refusal}
 use Rattle.words.specs.declared.Refusal.the-variants.{Nodesk, Noblock, Stage, Owned, Nothing, Notlabel, Worn, Full, Busy}
 use Rattle.book.specs.Choice.{if_then_else_, _<ᵇ_, _≤ᵇ_}
 use Rattle.book.specs.Sizes.{Size, isLabel, roundOf, isUsed, isOwned}
-use Rattle.book.specs.Steps.{DeskStep, look, claim, fetch, finish, Desk, idle, looked, claimed, fetched}
-
-pub data Verdict : Type 0 where
-  takes : Verdict
-  refuses : Refusal → Verdict
+use Rattle.book.specs.Steps.{DeskStep, look, claim, fetch, finish, Desk, idle, looked, holding, isFetched}
+pub use Rattle.book.specs.declared.Verdict.{Verdict}
+pub use Rattle.book.specs.declared.Verdict.the-variants.{Takes as takes, Refuses as refuses}
 
 abbrev pub judge : {A : Type 0} → Verdict → A → (Refusal → A) → A
 judge takes x f = x
@@ -30,8 +28,7 @@ grid =
 abbrev pub stage : {A : Type 0} → Desk A → ℕ
 stage idle = 0
 stage (looked x) = 1
-stage (claimed x) = 2
-stage (fetched x) = 3
+stage (holding h) = if isFetched h then 3 else 2
 
 abbrev pub column : DeskStep → ℕ
 column (look i) = 0
@@ -63,17 +60,17 @@ module _ (z : Size) where
       else if isUsed z p i && waits then takes
       else refuses Nothing
 
-  -- may turn P + 1 be started; `busy q` says that a desk has claimed or fetched in turn q and not finished
-  unfoldable pub startable : ℕ → (ℕ → Bool) → ℕ → Verdict
+  -- may turn P + 1 be started; `busy` says that a desk has claimed or fetched in turn Q and not finished
+  unfoldable pub startable : ℕ → Bool → ℕ → Verdict
   startable k busy next =
       if 65536 ≤ᵇ roundOf z next then refuses Worn
       else if next <ᵇ z .nb then takes
       else if k ≤ᵇ next - z .nb then refuses Full
-      else if busy (next - z .nb) then refuses Busy
+      else if busy then refuses Busy
       else takes
 
   -- may label a be put, `written` labels standing in turn P
-  unfoldable pub placeable : ℕ → ℕ → ℕ → (ℕ → Bool) → ℕ → Verdict
+  unfoldable pub placeable : ℕ → ℕ → ℕ → Bool → ℕ → Verdict
   placeable p written k busy a =
       if not (isLabel a) then refuses Notlabel
       else if written <ᵇ z .ne then takes

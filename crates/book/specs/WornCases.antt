@@ -6,10 +6,12 @@ use Prim.Native.Nat.{ℕ, _-_}
 use lib.ListN.{replicate}
 use Rattle.words.specs.declared.Answer.the-variants.{Put}
 use Rattle.words.specs.declared.Refusal.the-variants.{Notlabel, Worn}
+use Rattle.book.specs.Sizes.{sized}
 use Rattle.book.specs.Steps.{idle}
 use Rattle.book.specs.Verdicts.{takes, refuses, startable, placeable}
 use Rattle.book.specs.Book.{Book, opened, after, putStep}
-use Rattle.book.specs.Cases.{put, get, sized, no}
+use Rattle.book.specs.Messages.{put, get}
+use Rattle.book.specs.Cases.{no}
 
 -- the book once label 1 was put and got n times
 abbrev pub byTurns : ℕ → Book
@@ -22,9 +24,9 @@ WornCases =
     × ((putStep (sized 2 1 1) (byTurns 131071) 5) .answer ≡ Put 5)
     × ((putStep (sized 2 1 1) (byTurns 131072) 5) .answer ≡ no Worn)
     -- NOTLABEL before WORN; WORN before FULL, where K is Q, and before BUSY
-    × (placeable (sized 2 1 1) 131071 1 131070 (λ q. true) 1000000 ≡ refuses Notlabel)
-    × (placeable (sized 2 1 1) 131071 1 131070 (λ q. true) 5 ≡ refuses Worn)
-    × (placeable (sized 2 1 1) 131071 1 131071 (λ q. true) 5 ≡ refuses Worn)
+    × (placeable (sized 2 1 1) 131071 1 131070 true 1000000 ≡ refuses Notlabel)
+    × (placeable (sized 2 1 1) 131071 1 131070 true 5 ≡ refuses Worn)
+    × (placeable (sized 2 1 1) 131071 1 131071 true 5 ≡ refuses Worn)
     -- 64 blocks: the last turn has round 65,535
-    × (startable (sized 64 64 1) 4194302 (λ q. false) 4194303 ≡ takes)
-    × (startable (sized 64 64 1) 4194303 (λ q. false) 4194304 ≡ refuses Worn)
+    × (startable (sized 64 64 1) 4194302 false 4194303 ≡ takes)
+    × (startable (sized 64 64 1) 4194303 false 4194304 ≡ refuses Worn)

@@ -8,8 +8,10 @@ use Rattle.words.specs.declared.Answer.the-variants.{Refused}
 use Rattle.words.specs.declared.Refusal.{Refusal}
 use Rattle.words.specs.declared.Refusal.the-variants.{Unfit, Damaged}
 use Rattle.book.specs.Sizes.{Size}
-use Rattle.book.specs.Steps.{Step, Deed, decode}
-use Rattle.book.specs.Verdicts.{Verdict, takes, refuses}
+use Rattle.book.specs.declared.Deed.{Deed}
+use Rattle.book.specs.Steps.{Step, decode}
+use Rattle.book.specs.declared.Verdict.{Verdict}
+use Rattle.book.specs.declared.Verdict.the-variants.{Takes as takes, Refuses as refuses}
 use Rattle.line.specs.declared.Block.{Block}
 use Rattle.line.specs.declared.Head.{Head}
 use Rattle.line.specs.Line.{Line, sizeOf, orderStep, does}

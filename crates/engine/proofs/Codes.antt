@@ -7,7 +7,9 @@ use lib.Dec.{leb}
 use borrow.Author.Tests.{le-leb, lt-leb, ne-eqb}
 use Rattle.book.specs.Choice.{if_then_else_}
 use Rattle.book.specs.Sizes.{within}
-use Rattle.book.specs.Steps.{Step, look, claim, fetch, finish, put, get, order, desk, unlisted, decode}
+use Rattle.book.specs.declared.DeskStep.the-variants.{Look as look, Claim as claim, Fetch as fetch, Finish as finish}
+use Rattle.book.specs.declared.Deed.the-variants.{Put as put, Get as get, Order as order, Desk as desk, Unlisted as unlisted}
+use Rattle.book.specs.Steps.{Step, decode}
 use Rattle.book.proofs.Choice.{and-false}
 
 inside : (low high n : ℕ) → low ≤ n → n ≤ high → within low high n ≡ true

@@ -6,8 +6,11 @@ use Prim.Native.Nat.{ℕ, _<_}
 use lib.Dec.{leb, leb→le}
 use lib.ListN.{getD}
 use Rattle.book.specs.Sizes.{Size, isOwned, currentTurn}
-use Rattle.book.specs.Steps.{look, idle}
-use Rattle.book.specs.Verdicts.{Verdict, takes, refuses, judge, admitted, lookable}
+use Rattle.book.specs.declared.DeskStep.the-variants.{Look as look}
+use Rattle.book.specs.Steps.{idle}
+use Rattle.book.specs.declared.Verdict.{Verdict}
+use Rattle.book.specs.declared.Verdict.the-variants.{Takes as takes, Refuses as refuses}
+use Rattle.book.specs.Verdicts.{judge, admitted, lookable}
 use Rattle.book.proofs.Choice.{cases, not→false, gt→false}
 use Rattle.book.proofs.Turns.{current-block}
 use Rattle.line.specs.Line.{Line, Outcome, Spot, sizeOf, refuse, unused, recordOf, lookStep, deskDoes, deskStep}

@@ -14,8 +14,12 @@ use Rattle.words.specs.declared.Answer.the-variants.{Seen, Refused}
 use Rattle.words.specs.declared.Refusal.{Refusal}
 use Rattle.words.specs.declared.Refusal.the-variants.{Nodesk, Noblock, Nothing}
 use Rattle.book.specs.Sizes.{Size, blockOf, currentTurn, isOwned}
-use Rattle.book.specs.Steps.{DeskStep, look, claim, fetch, finish, idle, looked, claimed, carried}
-use Rattle.book.specs.Verdicts.{Verdict, takes, refuses, judge, column, atStage, noBlock, admitted, lookable}
+use Rattle.book.specs.declared.DeskStep.{DeskStep}
+use Rattle.book.specs.declared.DeskStep.the-variants.{Look as look, Claim as claim, Fetch as fetch, Finish as finish}
+use Rattle.book.specs.Steps.{idle, looked, claimed, carried}
+use Rattle.book.specs.declared.Verdict.{Verdict}
+use Rattle.book.specs.declared.Verdict.the-variants.{Takes as takes, Refuses as refuses}
+use Rattle.book.specs.Verdicts.{judge, column, atStage, noBlock, admitted, lookable}
 use Rattle.book.proofs.Choice.{cases, by-test₂, T→true, not→false}
 use Rattle.book.proofs.Turns.{current-block}
 use Rattle.line.specs.declared.Block.{Block}

@@ -11,7 +11,7 @@ use Rattle.words.specs.declared.Refusal.{Refusal}
 use Rattle.words.specs.declared.Refusal.the-variants.{Range}
 use Rattle.words.specs.declared.Answer.the-variants.{Whole, Refused}
 use Rattle.book.specs.Sizes.{Size, isLabel, isOrder}
-use Rattle.book.specs.Verdicts.{takes, refuses}
+use Rattle.book.specs.declared.Verdict.the-variants.{Takes as takes, Refuses as refuses}
 use Rattle.book.proofs.Choice.{and-first, and-second}
 use Rattle.line.specs.declared.Block.{Block}
 use Rattle.line.specs.declared.Head.{Head}

@@ -13,7 +13,9 @@ use Rattle.words.specs.declared.Refusal.the-variants.{Notlabel, Worn}
 use Rattle.words.specs.declared.Answer.the-variants.{Put, Refused}
 use Rattle.book.specs.Choice.{if_then_else_, _<ᵇ_}
 use Rattle.book.specs.Sizes.{Size, isLabel}
-use Rattle.book.specs.Verdicts.{Verdict, takes, refuses, startable, placeable}
+use Rattle.book.specs.declared.Verdict.{Verdict}
+use Rattle.book.specs.declared.Verdict.the-variants.{Takes as takes, Refuses as refuses}
+use Rattle.book.specs.Verdicts.{startable, placeable}
 use Rattle.book.proofs.Choice.{by-test, cases, T→true, not→false, ge→false}
 use Rattle.line.specs.declared.Block.{Block}
 use Rattle.line.specs.declared.Head.{Head}

@@ -10,7 +10,8 @@ use Rattle.words.specs.declared.Refusal.{Refusal}
 use Rattle.words.specs.declared.Refusal.the-variants.{Stage}
 use Rattle.book.specs.Choice.{if_then_else_, _≡ᵇ_}
 use Rattle.book.specs.Steps.{Desk, claimed, carried}
-use Rattle.book.specs.Verdicts.{takes, refuses, grid, stage, atStage}
+use Rattle.book.specs.declared.Verdict.the-variants.{Takes as takes, Refuses as refuses}
+use Rattle.book.specs.Verdicts.{grid, stage, atStage}
 use Rattle.line.specs.declared.Desk.{Desk as LentDesk}
 use Rattle.line.specs.Line.{Spot, nowhere, deskOf}
 use Rattle.rules.specs.Checking.{spotOf}

@@ -5,7 +5,9 @@ use Prim.Native.Nat.{ℕ, _+_, _*_, _≤_, _<_}
 use lib.ListN.{length}
 use Rattle.book.specs.Choice.{if_then_else_, _<ᵇ_, _≡ᵇ_}
 use Rattle.book.specs.Sizes.{Size, roundOf}
-use Rattle.book.specs.Verdicts.{Verdict, takes, refuses, startable, placeable}
+use Rattle.book.specs.declared.Verdict.{Verdict}
+use Rattle.book.specs.declared.Verdict.the-variants.{Takes as takes, Refuses as refuses}
+use Rattle.book.specs.Verdicts.{startable, placeable}
 use Rattle.line.specs.declared.Block.{Block}
 use Rattle.line.specs.Line.{oneWritten}
 use Rattle.engine.specs.declared.owner.Verdict.{Verdict as Told}

@@ -10,8 +10,14 @@ use Rattle.words.specs.declared.Refusal.the-variants.{Noblock, Lost}
 use Rattle.words.specs.Words.{refusal}
 use Rattle.book.specs.Choice.{if_then_else_, _≡ᵇ_}
 use Rattle.book.specs.Sizes.{blockOf, currentTurn, isOwned}
-use Rattle.book.specs.Steps.{DeskStep, look, claim, fetch, finish, Deed, put, get, order, desk, unlisted, idle, looked, claimed, fetched}
-use Rattle.book.specs.Verdicts.{Verdict, takes, refuses, judge, column, atStage, noBlock, lookable}
+use Rattle.book.specs.declared.DeskStep.{DeskStep}
+use Rattle.book.specs.declared.DeskStep.the-variants.{Look as look, Claim as claim, Fetch as fetch, Finish as finish}
+use Rattle.book.specs.declared.Deed.{Deed}
+use Rattle.book.specs.declared.Deed.the-variants.{Put as put, Get as get, Order as order, Desk as desk, Unlisted as unlisted}
+use Rattle.book.specs.Steps.{idle, looked, claimed, fetched}
+use Rattle.book.specs.declared.Verdict.{Verdict}
+use Rattle.book.specs.declared.Verdict.the-variants.{Takes as takes, Refuses as refuses}
+use Rattle.book.specs.Verdicts.{judge, column, atStage, noBlock, lookable}
 use Rattle.line.specs.declared.Block.{Block}
 use Rattle.line.specs.declared.Desk.{Desk as LentDesk}
 use Rattle.line.specs.Line.{numbersOf, oneClaimed, oneFinished}

@@ -10,7 +10,8 @@ use Rattle.line.specs.declared.Surveyed.{Surveyed}
 use Rattle.line.specs.declared.Surveyed.the-variants.{Survey, Unfit as NoSurvey, Damaged as Unsound}
 use Rattle.lbq.specs.Replies.{SurveyReply, ofAnswer, ofOpening, ofCheck, ofSurvey}
 
--- of all answers that carry v: 0 for the seven that are no refusal, and 1 to 15 for the refusals; each value but that of DONE
+-- of all answers that carry v: 0 for the seven that are no refusal, and 1 to 15 for the refusals; each value but that
+-- of DONE
 pub numbers : (v : ℕ) → map (λ a. (ofAnswer a) .number) (answers v) ≡ replicate 7 0 ++ (1 ∷ 2 ∷ 3 ∷ 4 ∷ 5 ∷ 6 ∷ 7 ∷ 8 ∷ 9 ∷ 10 ∷ 11 ∷ 12 ∷ 13 ∷ 14 ∷ 15 ∷ [])
 numbers v = fifteen v
 

@@ -1,9 +1,13 @@
+mod Calls
+mod Changing
+pub mod Crossing
+mod Given
+mod Lent
 pub mod Narrowed
 mod Parts
-pub mod Crossing
-mod Single
-mod Lent
-mod Reading
 mod Passing
+mod Reading
 mod Replied
+mod Single
 pub mod Unique
+pub mod OneVersion

@@ -1,5 +1,5 @@
--- A number that is held to the highest one means what the number means: a code above 79 is not listed, and a size above 64
--- does not fit.
+-- A number that is held to the highest one means what the number means: a code above 79 is not listed, and a size above
+-- 64 does not fit.
 use mathlib.Core.Path.{_≡_, refl, sym, ap, _∙_}
 use Prim.Native.Nat.{ℕ, _≤_, _<_}
 use native.Mathlib.Omega.{arith}

@@ -1,6 +1,6 @@
--- The calls that may change the line pass on what was lent: head, table and entries are given up to the portal's call, which
--- says what is there afterwards, and a reply is made of its answer. Here is what their walks share: the contract of such a
--- call with any numbers, that of what was lent at entry it has what it asks, what it says, and how a walk ends.
+-- The calls that may change the line pass on what was lent: head, table and entries are given up to the portal's call,
+-- which says what is there afterwards, and a reply is made of its answer. Here is the portal's call, with any numbers,
+-- as a step of a walk: that of what was lent at entry it has what it asks, and what it says. And how such a walk ends.
 -- Assumes nothing.
 use mathlib.Core.Path.{_≡_}
 use mathlib.Core.List.{List, [], _∷_}
@@ -24,60 +24,26 @@ use denote.Builtin.{u32}
 use denote.Ref.{ptr-vals, mut-tells}
 use denote.Slice.{Room, finally, slice-vals, mut-slice-tells}
 use denote.Steps.{owned, heard}
-use denote.Signature.{plain, mutRefTo, mutSliceOf, Slot, typesAt}
-use denote.Triple.Spec.{Meets, tripleOf}
-use denote.Triple.Statement.{Contract, Triple}
+use denote.Signature.{plain, typesAt}
+use denote.Triple.Statement.{Triple}
 use denote.Triple.Call.{calls-at}
-use denote.Triple.End.{all}
-use denote.Triple.Clauses.{Ended, Clauses, closing, ensured, lasts, Lasts, AtExit, atExit}
-use denote.Triple.Walked.{walked, walk-meets, Stays, gave-ref, gave-slice, walkOf, AllGo, goes-gave-ref, goes-gave-slice, ends-at}
-use denote.Exit.{yes}
+use denote.Triple.Clauses.{ensured, lasts, Lasts}
+use denote.Triple.Walked.{says, walked, walk-meets, Stays, gave-ref, gave-slice, walkOf, AllGo, goes-gave-ref, goes-gave-slice, ends-at}
 use Rattle.line.specs.Line.{Line}
 use Rattle.walk.proofs.Called.{came-last}
 use Rattle.walk.proofs.Numbers as N
-use Rattle.walk.proofs.Numbers.{Numbers}
 use Rattle.portal.specs.Promises.{lent}
+use Rattle.portal.proofs.Changing.{ended, Does, clauses, Changes}
 use Rattle.portal.proofs.Rows.{RH, RB}
-use Rattle.lbq.proofs.Lent.{Lent, line, tokens, adds}
+use Rattle.lbq.proofs.Lent.{Lent, line, tokens}
 
--- ---- the contract of a call that takes head, table, entries and numbers of widths ws, and gives R
-
-abbrev s₀ : Slot 3
-s₀ = mutRefTo (0 ∷ []) tt (plain (λ _. RH))
-
-abbrev s₁ : Slot 3
-s₁ = mutSliceOf (1 ∷ []) tt (plain (λ _. RB))
-
-abbrev s₂ : Slot 3
-s₂ = mutSliceOf (2 ∷ []) tt (plain (λ _. u32))
-
+-- at exit all three are given up
 module _ (ws : List Width) (R : RattleType) where
-  abbrev pub ended : Ended
-  ended = record {
-    signature = record { lifetimes = 3; outlives = []; params = s₀ ∷ s₁ ∷ s₂ ∷ N.slots 3 ws; result = plain (λ _. R) };
-    kept = (yes, (yes, (yes, all yes (N.slots 3 ws))));
-  }
-
-  -- what is promised of the arguments, of the answer, and of what is there afterwards
-  abbrev pub Promise : {M : Type 1} → URA M → Type 2
-  Promise 𝓤 = (κs : Lfts 3) → Denots (typesAt (ended .signature .params) κs) → R .Denot → AtExit ended κs → SProp 𝓤
-
-  abbrev pub clauses : {M : Type 1} (𝓤 : URA M) → Promise 𝓤 → Clauses 𝓤 ended
-  clauses 𝓤 P κs a = record { ghost = Unit {0}; requires = λ _. emp 𝓤; ensures = λ _ r e. P κs a r e }
-
-  -- the same of the line lent, the numbers, the answer and the line there afterwards
-  abbrev pub Says : Type 1
-  Says = Line → Numbers ws → R .Denot → Line → Type 0
-
-  abbrev said-of : {M : Type 1} (𝓤 : URA M) → Says → Promise 𝓤
-  said-of 𝓤 C κs a r e = fact 𝓤 (C (lent (a .0 .now) (a .1 .0 .now) (a .1 .1 .0 .now)) (N.numbers 3 κs ws (a .1 .1 .1)) r (lent (e .0 .now) (e .1 .0 .now) (e .1 .1 .0 .now)))
-
-  -- at exit all three are given up
-  abbrev pub stayed : Stays (ended .signature .params) (ended .kept)
+  abbrev pub stayed : Stays (ended ws R .signature .params) (ended ws R .kept)
   stayed = (gave-ref (0 ∷ []) tt (plain (λ _. RH)), (gave-slice (1 ∷ []) tt (plain (λ _. RB)), (gave-slice (2 ∷ []) tt (plain (λ _. u32)), N.stays 3 ws)))
 
   module _ {M : Type 1} (𝓤 : URA M) (H : Heap 𝓤) (A : Atoms 𝓤) (W : Given 𝓤 H A) where
-    pub given-up : AllGo 𝓤 H A W 3 (ended .signature .params) (ended .kept) stayed
+    pub given-up : AllGo 𝓤 H A W 3 (ended ws R .signature .params) (ended ws R .kept) stayed
     given-up = (
       goes-gave-ref 𝓤 H A W 3 0 tt (plain (λ _. RH)),
       (
@@ -85,9 +51,6 @@ module _ (ws : List Width) (R : RattleType) where
         (goes-gave-slice 𝓤 H A W 3 2 tt (plain (λ _. u32)), N.go-away 𝓤 H A W 3 ws),
       ),
     )
-
-    abbrev pub Passed : Says → Contract 𝓤
-    Passed C = tripleOf 𝓤 H A (ended .signature) (closing 𝓤 H A ended (clauses 𝓤 (said-of 𝓤 C)))
 
 -- ---- what was lent
 
@@ -102,7 +65,7 @@ module _ (x : Lent) where
   -- with numbers ns: the arguments, their machine values, and what is owned of them
   module _ (κs : Lfts 3) (ws : List Width) (ns : Denots (N.rows 3 κs ws)) where
     abbrev rows : List RattleType
-    rows = typesAt (s₀ ∷ s₁ ∷ s₂ ∷ N.slots 3 ws) κs
+    rows = typesAt (ended ws u32 .signature .params) κs
 
     abbrev a : Denots rows
     a = (x .head, (x .table, (x .entries, ns)))
@@ -120,13 +83,13 @@ module _ {M : Type 1} (𝓤 : URA M) (H : Heap 𝓤) (A : Atoms 𝓤) (W : Given
   module _ (κs : Lfts 3) (qs : Shares 3) (x : Lent) where
     -- ---- the portal's call, with numbers ms
 
-    module _ (us : List Width) (ms : Denots (N.rows 3 κs us)) (Q : RattleType) (C : Says us Q) where
-      abbrev pub to-passed : Passed us Q 𝓤 H A W C .Ghost
+    module _ (us : List Width) (ms : Denots (N.rows 3 κs us)) (Q : RattleType) (C : Does us Q) where
+      abbrev pub to-passed : Changes us Q 𝓤 H A C .Ghost
       to-passed = ((κs, qs, tt, a x κs us ms, vals x κs us ms), tt)
 
       -- what was lent, with whatever numbers ns, is what it asks for
       goes-passed : (ws : List Width) (ns : Denots (N.rows 3 κs ws)) → N.Fit 3 κs us ms
-          → ent 𝓤 (sep 𝓤 (tokens 𝓤 H A κs qs) (sem 𝓤 H A (held x κs ws ns))) (Passed us Q 𝓤 H A W C .pre to-passed)
+          → ent 𝓤 (sep 𝓤 (tokens 𝓤 H A κs qs) (sem 𝓤 H A (held x κs ws ns))) (Changes us Q 𝓤 H A C .pre to-passed)
       goes-passed ws ns fit =
           qed W (raw (tokens 𝓤 H A κs qs) ∷ ‵ (held x κs ws ns) ∷ []) ∵
           move ! (1 ∷ []) $ fsplit ! $ move ! (1 ∷ []) $ fsplit ! $ move ! (1 ∷ []) $ fsplit ! $ move ! (1 ∷ []) $ drop ! $
@@ -144,7 +107,7 @@ module _ {M : Type 1} (𝓤 : URA M) (H : Heap 𝓤) (A : Atoms 𝓤) (W : Given
       abbrev last-line : Lasts (ended us Q) κs (a x κs us ms) → Line
       last-line zs = lent (zs .0) (zs .1 .0) (zs .1 .1 .0)
 
-      said : (r : Q .Denot) → ent 𝓤 (ensured 𝓤 H A (ended us Q) (clauses us Q 𝓤 (said-of us Q 𝓤 C)) κs (a x κs us ms) tt r)
+      said : (r : Q .Denot) → ent 𝓤 (ensured 𝓤 H A (ended us Q) (clauses us Q 𝓤 C) κs (a x κs us ms) tt r)
           (ex 𝓤 (λ (z : Line). guard 𝓤 (Learnt r z) (sem 𝓤 H A (Last x z))))
       said r =
           qed W (some (λ (zs : Lasts (ended us Q) κs (a x κs us ms)). ‵ (lasts (ended us Q) κs (a x κs us ms) zs) ⊛ raw (fact 𝓤 (Heard r (last-line zs)))) ∷ []) ∵
@@ -153,27 +116,23 @@ module _ {M : Type 1} (𝓤 : URA M) (H : Heap 𝓤) (A : Atoms 𝓤) (W : Given
           -- [the last entries; what is said of the numbers; the last records; the last head]
           show ! (λ (z : Line). guard 𝓤 (Learnt r z) (sem 𝓤 H A (Last x z))) (last-line zs) $ check ! (e, (long₁, long₂)) $ keep ! (3 ∷ 2 ∷ 0 ∷ []) $ done !))))
 
-      came-passed : (w : Val) → ent 𝓤 (Passed us Q 𝓤 H A W C .post to-passed w)
+      came-passed : (w : Val) → ent 𝓤 (Changes us Q 𝓤 H A C .post to-passed w)
           (H .⇛ (ex 𝓤 (λ (r : Q .Denot). ex 𝓤 (λ (z : Line). guard 𝓤 (Is Q r (w ∷ []) × Learnt r z) (sep 𝓤 (tokens 𝓤 H A κs qs) (sem 𝓤 H A (Last x z)))))))
       came-passed w = came-last 𝓤 H A W Q (tokens 𝓤 H A κs qs) Learnt (λ z. sem 𝓤 H A (Last x z)) _ said w
 
     -- ---- how a walk ends, with reply r and what says the last line z
 
-    module _ (ws : List Width) (ns : Denots (N.rows 3 κs ws)) (R : RattleType) (P : Promise ws R 𝓤) where
+    module _ (ws : List Width) (ns : Denots (N.rows 3 κs ws)) (R : RattleType) (P : Does ws R) where
       abbrev pub Post : Val → SProp 𝓤
       Post = walkOf 𝓤 H A (ended ws R) (stayed ws R) (clauses ws R 𝓤 P) .post ((κs, qs, tt, a x κs ws ns, vals x κs ws ns), tt)
 
-      -- where z is there afterwards
-      abbrev pub Keeps : R .Denot → Line → Type 1
-      Keeps r z = ent 𝓤 (emp 𝓤) (P κs (a x κs ws ns) r (atExit (ended ws R) κs (a x κs ws ns) (z .head, (z .table, (z .entries, N.lasts 3 κs ws ns)))))
-
-      pub exits : Makes 𝓤 H A R (Is R) → (r : R .Denot) (z : Line) (w : Val) → Is R r (w ∷ []) → Lengths x z → Keeps r z
+      pub exits : Makes 𝓤 H A R (Is R) → (r : R .Denot) (z : Line) (w : Val) → Is R r (w ∷ []) → Lengths x z → P (line x) (N.numbers 3 κs ws ns) r z
           → ent 𝓤 (⋆ 𝓤 H A (raw (tokens 𝓤 H A κs qs) ∷ ‵ (Last x z) ∷ [])) (Post w)
       exits makes r z w is long keeps =
           qed W (raw (tokens 𝓤 H A κs qs) ∷ ‵ (Last x z) ∷ []) ∵
           suffices ! _ (ends-at 𝓤 H A (ended ws R) (stayed ws R) (clauses ws R 𝓤 P) W ((κs, qs, tt, a x κs ws ns, vals x κs ws ns), tt) w r
           (z .head, (z .table, (z .entries, N.lasts 3 κs ws ns))) (tt, (long .0, (long .1, N.stays-fit 3 κs ws ns)))) $
-          adds ! keeps $ frame ! $
+          says ! keeps $ frame ! $
           use0 W (‵ (N.had 3 κs ws ns)) (N.gone 𝓤 H A W 3 κs ws ns) $
           move ! (1 ∷ []) $ fsplit ! $ move ! (1 ∷ []) $ fsplit ! $
           -- [the last records; the last entries; the last head; the numbers]
@@ -181,7 +140,7 @@ module _ {M : Type 1} (𝓤 : URA M) (H : Heap 𝓤) (A : Atoms 𝓤) (W : Given
 
   -- ---- from a walk to the promise
 
-  module _ (ws : List Width) (R : RattleType) (P : Promise ws R 𝓤) (run : Fun 𝓤) where
+  module _ (ws : List Width) (R : RattleType) (P : Does ws R) (run : Fun 𝓤) where
     -- from what was lent, with lengths and numbers that fit, the run ends as promised
     abbrev pub Walk : Type 1
     Walk =
@@ -189,7 +148,7 @@ module _ {M : Type 1} (𝓤 : URA M) (H : Heap 𝓤) (A : Atoms 𝓤) (W : Given
         → Room RB (length (x .table .now)) → Room u32 (length (x .entries .now)) → N.Fit 3 κs ws ns
         → ent 𝓤 (sep 𝓤 (tokens 𝓤 H A κs qs) (sem 𝓤 H A (held x κs ws ns))) (run (arguments x κs ws ns) (Post κs qs x ws ns R P))
 
-    pub meets : ((vs : List Val) → Mono 𝓤 (run vs)) → Walk → Meets 𝓤 H A (ended ws R .signature) run (closing 𝓤 H A (ended ws R) (clauses ws R 𝓤 P))
+    pub meets : ((vs : List Val) → Mono 𝓤 (run vs)) → Walk → Triple 𝓤 run (Changes ws R 𝓤 H A P)
     meets mono walk =
         walk-meets 𝓤 H A (ended ws R) (stayed ws R) W (given-up ws R 𝓤 H A W) (clauses ws R 𝓤 P) run mono
         (walked 𝓤 H A (ended ws R) (stayed ws R) (clauses ws R 𝓤 P) run
@@ -198,20 +157,21 @@ module _ {M : Type 1} (𝓤 : URA M) (H : Heap 𝓤) (A : Atoms 𝓤) (W : Given
         (λ κs qs bounds a g are. via 𝓤 _ (fst∗ 𝓤 _ (emp 𝓤))
         (walk κs qs (record { head = a .0; table = a .1 .0; entries = a .1 .1 .0 }) (a .1 .1 .1) (are .1 .0 .0 .1) (are .1 .1 .0 .0 .1) (are .1 .1 .1))))
 
--- ---- the portal's call as a step of a walk: what was lent goes, its answer r has the machine value w, and the last line is z
+-- ---- the portal's call as a step of a walk: what was lent goes, its answer r has the machine value w, and z is the
+-- last line
 
 module _ {M : Type 1} {𝓤 : URA M} {H : Heap 𝓤} {A : Atoms 𝓤} {K : Type 0} {W : Given 𝓤 H A} {Γ : List (Item 𝓤)} {E : Env 𝓤 H} {F : Calls 𝓤 H} {Λ : Loops 𝓤 H}
     {n : Name} {os : List Operand} {d : Place} {rest : Body} {q : Goal-post 𝓤 H} where
-  pub calls-passed : K → FmC 𝓤 H (W .laws) F → (us : List Width) (Q : RattleType) (C : Says us Q) → Triple 𝓤 (F n) (Passed us Q 𝓤 H A W C)
+  pub calls-passed : K → FmC 𝓤 H (W .laws) F → (us : List Width) (Q : RattleType) (C : Does us Q) → Triple 𝓤 (F n) (Changes us Q 𝓤 H A C)
       → (κs : Lfts 3) (qs : Shares 3) (x : Lent) (ws : List Width) (ns : Denots (N.rows 3 κs ws)) (ms : Denots (N.rows 3 κs us))
-      → N.Fit 3 κs us ms → Opds K W (raw (Passed us Q 𝓤 H A W C .pre (to-passed 𝓤 H A W κs qs x us ms Q C)) ∷ Γ) E os (arguments x κs us ms)
+      → N.Fit 3 κs us ms → Opds K W (raw (Changes us Q 𝓤 H A C .pre (to-passed 𝓤 H A W κs qs x us ms Q C)) ∷ Γ) E os (arguments x κs us ms)
       → ((w : Val) (r : Q .Denot) (z : Line) → Is Q r (w ∷ []) → C (line x) (N.numbers 3 κs us ms) r z → Lengths x z
       → Seq K W (raw (tokens 𝓤 H A κs qs) ∷ ‵ (Last x z) ∷ Γ) (lands F Λ E d w rest q))
       → Seq K W (raw (tokens 𝓤 H A κs qs) ∷ ‵ (held x κs ws ns) ∷ Γ) (runs F Λ E (seq (call n os d) rest) q)
   calls-passed t fm us Q C known κs qs x ws ns ms fit opds k =
       let to = to-passed 𝓤 H A W κs qs x us ms Q C in
-      use2 W (raw (Passed us Q 𝓤 H A W C .pre to)) (goes-passed 𝓤 H A W κs qs x us ms Q C ws ns fit) $
-      calls-at t fm (Passed us Q 𝓤 H A W C) known to opds (λ w.
+      use2 W (raw (Changes us Q 𝓤 H A C .pre to)) (goes-passed 𝓤 H A W κs qs x us ms Q C ws ns fit) $
+      calls-at t fm (Changes us Q 𝓤 H A C) known to opds (λ w.
       use1 W (later (some (λ (r : Q .Denot). some (λ (z : Line). given (Is Q r (w ∷ []) × Learnt 𝓤 H A W κs qs x us ms Q C r z)
       (raw (tokens 𝓤 H A κs qs) ⊛ ‵ (Last x z))))))
       (came-passed 𝓤 H A W κs qs x us ms Q C w) $ await t tt $ pick t (λ r. pick t (λ z. learn t (λ e. split t $ k w r z (e .0) (e .1 .0) (e .1 .1)))))

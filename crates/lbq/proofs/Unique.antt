@@ -5,23 +5,24 @@ use Rattle.book.specs.Sizes.{Size}
 use Rattle.book.specs.Steps.{Step}
 use Rattle.line.specs.Line.{Line}
 use Rattle.lbq.specs.Replies.{Reply, CheckReply, SurveyReply}
-use Rattle.lbq.specs.Promises.{Replied, Opens, Steps, Orders, Checks, Surveys}
-
-replied-unique : (o : Replied) (r s : Reply) (m n : Line) → record { line = m; reply = r } ≡ o → record { line = n; reply = s } ≡ o → (r ≡ s) × (m ≡ n)
-replied-unique o r s m n p q = (ap (λ (o : Replied). o .reply) (p ∙ sym q), ap (λ (o : Replied). o .line) (p ∙ sym q))
+use Rattle.lbq.specs.Promises.{Replied, RepliesOpening, RepliesStep, RepliesOrder, RepliesCheck, RepliesSurvey}
 
 module _ (l : Line) where
-  pub opens-unique : (z : Size) (r s : Reply) (m n : Line) → Opens l z r m → Opens l z s n → (r ≡ s) × (m ≡ n)
-  opens-unique z = replied-unique _
+  module _ (r s : Reply) (m n : Line) where
+    replied-unique : (o : Replied) → record { line = m; reply = r } ≡ o → record { line = n; reply = s } ≡ o → (r ≡ s) × (m ≡ n)
+    replied-unique o p q = (ap (λ (o : Replied). o .reply) (p ∙ sym q), ap (λ (o : Replied). o .line) (p ∙ sym q))
 
-  pub steps-unique : (x : Step) (r s : Reply) (m n : Line) → Steps l x r m → Steps l x s n → (r ≡ s) × (m ≡ n)
-  steps-unique x = replied-unique _
+    pub opening-unique : (z : Size) → RepliesOpening l z r m → RepliesOpening l z s n → (r ≡ s) × (m ≡ n)
+    opening-unique z = replied-unique _
 
-  pub orders-unique : (first last : ℕ) (r s : Reply) (m n : Line) → Orders l first last r m → Orders l first last s n → (r ≡ s) × (m ≡ n)
-  orders-unique first last = replied-unique _
+    pub step-unique : (x : Step) → RepliesStep l x r m → RepliesStep l x s n → (r ≡ s) × (m ≡ n)
+    step-unique x = replied-unique _
 
-  pub checks-unique : (r s : CheckReply) → Checks l r → Checks l s → r ≡ s
-  checks-unique r s p q = p ∙ sym q
+    pub order-unique : (first last : ℕ) → RepliesOrder l first last r m → RepliesOrder l first last s n → (r ≡ s) × (m ≡ n)
+    order-unique first last = replied-unique _
 
-  pub surveys-unique : (r s : SurveyReply) → Surveys l r → Surveys l s → r ≡ s
-  surveys-unique r s p q = p ∙ sym q
+  pub check-unique : (r s : CheckReply) → RepliesCheck l r → RepliesCheck l s → r ≡ s
+  check-unique r s p q = p ∙ sym q
+
+  pub survey-unique : (r s : SurveyReply) → RepliesSurvey l r → RepliesSurvey l s → r ≡ s
+  survey-unique r s p q = p ∙ sym q

@@ -1,3 +1,4 @@
 pub mod Narrow
 pub mod Replies
 pub mod Promises
+pub mod Version

@@ -1,5 +1,5 @@
--- The numbers that cross are 32 bits wide. The portal takes a code of 8 bits and sizes of 16: a larger number becomes the
--- largest of that width.
+-- The numbers that cross are 32 bits wide. The portal takes a code of 8 bits and sizes of 16: a larger number becomes
+-- the largest of that width.
 use Prim.Native.Nat.{ℕ}
 use Rattle.book.specs.Choice.{if_then_else_, _≤ᵇ_}
 

@@ -1,39 +1,34 @@
--- What crosses of each answer: the paper's number, or 0 where it is no refusal, and the values.
-use Prim.Native.Nat.{ℕ}
-use Rattle.words.specs.declared.Refusal.{Refusal}
-use Rattle.words.specs.declared.Refusal.the-variants.{Unfit, Damaged}
+-- What crosses of each answer: the number and the values that are said of it.
 use Rattle.words.specs.declared.Answer.{Answer}
-use Rattle.words.specs.Words.{said, refusal}
+use Rattle.words.specs.Words.{Said, said}
 use Rattle.line.specs.declared.Opening.{Opening}
-use Rattle.line.specs.declared.Opening.the-variants.{Open, Unfit as NoLine}
 use Rattle.line.specs.declared.Checked.{Checked}
-use Rattle.line.specs.declared.Checked.the-variants.{Sound, Unfit as Misfit, Broken}
-use Rattle.line.specs.declared.Surveyed.{Surveyed}
-use Rattle.line.specs.declared.Surveyed.the-variants.{Survey, Unfit as NoSurvey, Damaged as Unsound}
 use Rattle.line.specs.declared.Findings.{Findings}
+use Rattle.line.specs.Numbers.{OpeningSaid, openingSaid, CheckSaid, checkSaid, SurveySaid, surveySaid}
 pub use Rattle.lbq.specs.declared.Reply.{Reply}
 pub use Rattle.lbq.specs.declared.CheckReply.{CheckReply}
 pub use Rattle.lbq.specs.declared.SurveyReply.{SurveyReply}
 
-abbrev number : Refusal → ℕ
-number w = (refusal w) .0
+abbrev pub reply : Said → Reply
+reply s = record { number = s .number; value = s .value }
+
+abbrev pub openingReply : OpeningSaid → Reply
+openingReply s = record { number = s .number; value = s .value }
+
+abbrev pub checkReply : CheckSaid → CheckReply
+checkReply s = record { number = s .number; place = s .place; rule = s .rule }
+
+abbrev pub surveyReply : SurveySaid → SurveyReply
+surveyReply s = record { mask = s .mask; number = s .number; count = s .count; lowest = s .lowest }
 
 abbrev pub ofAnswer : Answer → Reply
-ofAnswer a = record { number = (said a) .number; value = (said a) .value }
+ofAnswer a = reply (said a)
 
 abbrev pub ofOpening : Opening → Reply
-ofOpening Open = record { number = 0; value = 0 }
-ofOpening NoLine = record { number = number Unfit; value = 0 }
+ofOpening o = openingReply (openingSaid o)
 
 abbrev pub ofCheck : Checked → CheckReply
-ofCheck Sound = record { number = 0; place = 0; rule = 0 }
-ofCheck Misfit = record { number = number Unfit; place = 0; rule = 0 }
-ofCheck (Broken place rule) = record { number = number Damaged; place = place; rule = rule }
-
-abbrev pub surveyNumber : Surveyed → ℕ
-surveyNumber Survey = 0
-surveyNumber NoSurvey = number Unfit
-surveyNumber Unsound = number Damaged
+ofCheck c = checkReply (checkSaid c)
 
 abbrev pub ofSurvey : Findings → SurveyReply
-ofSurvey v = record { mask = v .mask; number = surveyNumber (v .answer); count = v .count; lowest = v .lowest }
+ofSurvey v = surveyReply (surveySaid v)

@@ -24,9 +24,10 @@
 // tell, and nothing is promised then.
 mod narrow;
 mod replies;
+mod version;
 
-ghost use Rattle.portal.specs.Promises.{lent};
-ghost use Rattle.lbq.specs.Promises.{Opens, Steps, Orders, Checks, Surveys};
+ghost use Rattle.portal.specs.Promises.{before, after, theSize, theStep};
+ghost use Rattle.lbq.specs.Promises.{RepliesOpening, RepliesStep, RepliesOrder, RepliesCheck, RepliesSurvey};
 use line::Block;
 use line::Head;
 
@@ -64,7 +65,7 @@ pub extern "C" fn lbq_open(
     ne: u32,
     t: u32,
 ) -> Reply
-    ensures { λ r. ⌜ Opens (lent (now (head .entry)) (now (table .entry)) (now (entries .entry))) (record { nb = nb; ne = ne; t = t }) r (lent (now (head .exit)) (now (table .exit)) (now (entries .exit))) ⌝ }
+    ensures { λ r. ⌜ RepliesOpening (before head table entries) (theSize nb ne t) r (after head table entries) ⌝ }
 {
     let b = narrow::size(nb);
     let e = narrow::size(ne);
@@ -83,7 +84,7 @@ pub extern "C" fn lbq_step(
     a: u32,
     b: u32,
 ) -> Reply
-    ensures { λ r. ⌜ Steps (lent (now (head .entry)) (now (table .entry)) (now (entries .entry))) (record { code = code; a = a; b = b }) r (lent (now (head .exit)) (now (table .exit)) (now (entries .exit))) ⌝ }
+    ensures { λ r. ⌜ RepliesStep (before head table entries) (theStep code a b) r (after head table entries) ⌝ }
 {
     let c = narrow::code(code);
     let answer = portal::step(head, table, entries, c, a, b);
@@ -99,7 +100,7 @@ pub extern "C" fn lbq_order(
     first: u32,
     last: u32,
 ) -> Reply
-    ensures { λ r. ⌜ Orders (lent (now (head .entry)) (now (table .entry)) (now (entries .entry))) first last r (lent (now (head .exit)) (now (table .exit)) (now (entries .exit))) ⌝ }
+    ensures { λ r. ⌜ RepliesOrder (before head table entries) first last r (after head table entries) ⌝ }
 {
     let answer = portal::order(head, table, entries, first, last);
     replies::of_answer(answer)
@@ -108,7 +109,7 @@ pub extern "C" fn lbq_order(
 // Is the line sound? Nothing is changed.
 #[no_mangle]
 pub extern "C" fn lbq_check(head: &Head, table: &[Block], entries: &[u32]) -> CheckReply
-    ensures { λ r. ⌜ Checks (lent (now (head .entry)) (now (table .entry)) (now (entries .entry))) r ⌝ }
+    ensures { λ r. ⌜ RepliesCheck (before head table entries) r ⌝ }
 {
     let checked = portal::check(head, table, entries);
     replies::of_check(checked)
@@ -117,7 +118,7 @@ pub extern "C" fn lbq_check(head: &Head, table: &[Block], entries: &[u32]) -> Ch
 // Where could an idle desk take from? Nothing is changed.
 #[no_mangle]
 pub extern "C" fn lbq_survey(head: &Head, table: &[Block], entries: &[u32]) -> SurveyReply
-    ensures { λ r. ⌜ Surveys (lent (now (head .entry)) (now (table .entry)) (now (entries .entry))) r ⌝ }
+    ensures { λ r. ⌜ RepliesSurvey (before head table entries) r ⌝ }
 {
     let views = portal::survey(head, table, entries);
     replies::of_survey(views)

@@ -1,5 +1,6 @@
-// The numbers that cross are 32 bits wide; the portal takes a code of 8 bits and sizes of 16. A larger number becomes the
-// largest of that width, which is no code and fits nothing, so it means what the number meant: proofs/Narrowed.antt.
+// The numbers that cross are 32 bits wide; the portal takes a code of 8 bits and sizes of 16. A larger number becomes
+// the largest of that width, which is no code and fits nothing, so it means what the number meant:
+// proofs/Narrowed.antt.
 ghost use mathlib.Core.Path.{_≡_};
 ghost use Rattle.lbq.specs.Narrow.{atMost, narrowCode, narrowSize};
 

@@ -8,7 +8,8 @@ use line::Opening;
 use line::Surveyed;
 use words::Answer;
 ghost use mathlib.Core.Path.{_≡_};
-ghost use Rattle.lbq.specs.Replies.{ofAnswer, ofOpening, ofCheck, surveyNumber, ofSurvey};
+ghost use Rattle.line.specs.Numbers.{openingSaid, surveyNumber};
+ghost use Rattle.lbq.specs.Replies.{ofAnswer, ofOpening, ofCheck, ofSurvey};
 
 pub fn of_answer(a: Answer) -> Reply
     ensures { λ r. ⌜ r ≡ ofAnswer a ⌝ }
@@ -19,18 +20,21 @@ pub fn of_answer(a: Answer) -> Reply
     }
 }
 
+fn opening_number(o: Opening) -> u32
+    ensures { λ r. ⌜ r ≡ (openingSaid o) .number ⌝ }
+{
+    match o {
+        Opening::Open => 0,
+        Opening::Unfit => 1,
+    }
+}
+
 pub fn of_opening(o: Opening) -> Reply
     ensures { λ r. ⌜ r ≡ ofOpening o ⌝ }
 {
-    match o {
-        Opening::Open => Reply {
-            number: 0,
-            value: 0,
-        },
-        Opening::Unfit => Reply {
-            number: 1,
-            value: 0,
-        },
+    Reply {
+        number: opening_number(o),
+        value: 0,
     }
 }
 

@@ -11,15 +11,17 @@ use lib.Dec.{T, T-not, leb, eqb}
 use lib.ListN.{getD, drop}
 use lib.Seq.{getD-drop, append-snoc}
 use Rattle.book.specs.Total.{any, all}
-use Rattle.book.specs.Steps.{Desk, idle, looked, claimed, fetched}
-use Rattle.book.proofs.Choice.{by-test, by-order}
+use Rattle.book.specs.Steps.{Hold, Desk, idle, looked, holding, claimedAt, withFetched}
+use Rattle.book.proofs.Choice.{by-test, by-order, and-first}
 use Rattle.book.proofs.Turns.{current-low}
-use Rattle.line.specs.Line.{Line, LentDesk, Block, Spot, numbersOf, deskOf, unused, sizeOf}
-use Rattle.line.specs.Rules.{Holds, DeskRule, Rule1, Rule2, Rule3, Rule4, Rule5, Rule6, Rule7, Sound}
+use Rattle.line.specs.Line.{Line, LentDesk, Block, Spot, numbersOf, spotOf, deskOf, unused, sizeOf, recordOf}
+use Rattle.line.specs.Rules.{Holds, Current, DeskRule, Rule1, Rule2, Rule3, Rule4, Rule5, Rule6, Rule7, Sound}
 use Rattle.line.specs.Rules.{Rule, rule1, rule2, rule3, rule4, rule5, rule6, rule7, RuleAt, ask, ofBlocks, inOrder, Obeys}
-use Rattle.line.specs.Check.{Checked, sound, unfit, broken, fit, isIdle, holdsAt, clashes, noClash, isCurrent, deskHolds}
-use Rattle.line.specs.Check.{isZeros, holds1, holds2, holds3, holds4, holds5, holds6, holds7, holds, firstBroken, check}
+use Rattle.line.specs.Tests.{isRecent, deskObeys, isIdle, holdsAt, clashes, noClash, obeys3}
+use Rattle.line.specs.Check.{Checked, sound, unfit, broken, fit, holds, firstBroken, check}
 use Rattle.line.specs.Demands.{CheckUnfit, CheckSound, CheckBroken, FirstBroken}
+use Rattle.line.proofs.Current.{current→window, window→current}
+use Rattle.line.proofs.Cells.{valid}
 use Rattle.line.proofs.Tests.{Tells, itself, told, le, lt, eq, isnt, _and_, _or_, _implies_, choice, all-told, none-told}
 
 -- ---- rule 3, desk by desk
@@ -27,8 +29,7 @@ use Rattle.line.proofs.Tests.{Tells, itself, told, le, lt, eq, isnt, _a
 idle-is : (x : Desk Spot) → T (isIdle x) → x ≡ idle
 idle-is idle t = refl
 idle-is (looked s) t = absurd t
-idle-is (claimed s) t = absurd t
-idle-is (fetched s) t = absurd t
+idle-is (holding h) t = absurd t
 
 idle-told : (x : Desk Spot) → Tells (isIdle x) (x ≡ idle)
 idle-told x = record { to = idle-is x; from = λ e. subst (λ (y : Desk Spot). T (isIdle y)) (sym e) tt }
@@ -40,8 +41,7 @@ spot-told x s =
 holds-told : (s : Spot) (x : Desk Spot) → Tells (holdsAt s x) (Holds x s)
 holds-told s idle = itself
 holds-told s (looked x) = itself
-holds-told s (claimed x) = spot-told x s
-holds-told s (fetched x) = spot-told x s
+holds-told s (holding h) = spot-told (h .at) s
 
 abbrev deskIn : List LentDesk → ℕ → Desk Spot
 deskIn xs d = deskOf (getD xs d (numbersOf idle))
@@ -70,8 +70,7 @@ spot-free x xs =
 clash-told : (x : Desk Spot) (xs : List LentDesk) → Tells (not (clashes x xs)) (NoneHolds (Holds x) xs)
 clash-told idle xs = record { to = λ _ d s p. absurd p; from = λ _. tt }
 clash-told (looked x) xs = record { to = λ _ d s p. absurd p; from = λ _. tt }
-clash-told (claimed x) xs = spot-free x xs
-clash-told (fetched x) xs = spot-free x xs
+clash-told (holding h) xs = spot-free (h .at) xs
 
 abbrev Apart : List LentDesk → Type 0
 Apart xs = (d e : ℕ) (s : Spot) → d ≢ e → Holds (deskIn xs d) s → Holds (deskIn xs e) s → ⊥
@@ -92,27 +91,55 @@ apart-told (x ∷ xs) =
 
 -- ---- each rule
 
-module _ (l : Line) where
-  rule1-told : Tells (holds1 l) (Rule1 l)
-  unfolding holds1
-  rule1-told = told (le and le and lt) (λ h. record { below = h .0 .0; near = h .0 .1; rounds = h .1 }) (λ r. ((r .below, r .near), r .rounds))
+pub blocks : (l : Line) → T (fit (sizeOf (l .head)) (l .table) (l .entries)) → 0 < l .head .nb
+unfolding fit
+blocks l f = omega (arith, valid (sizeOf (l .head)) (search and-first))
 
-  rule2-told : Tells (holds2 l) (Rule2 l)
-  unfolding holds2
+module _ (l : Line) (pos : 0 < l .head .nb) where
+  -- a turn is its block's current one exactly if it is among the last NB
+  current-told : (t : ℕ) → Tells (isRecent (l .head .nb) (l .head .p) t) (Current l t)
+  current-told t =
+      let z = sizeOf (l .head) in
+      told (le {m = t} {n = l .head .p} and lt {m = l .head .p - t} {n = l .head .nb})
+      (λ h. window→current z (l .head .p) t pos (record { low = h .0; high = omega (arith, h .0, h .1) }))
+      (λ e. let w = current→window z (l .head .p) t pos e in (w .low, omega (arith, w .high, w .low)))
+
+  rule1-told : Tells (holds l 64 rule1) (Rule1 l)
+  unfolding holds
+  rule1-told =
+      told (le and lt {m = l .head .p - l .head .k} {n = l .head .nb} and lt) (λ h. record { below = h .0 .0; near = omega (arith, h .0 .1); rounds = h .1 })
+      (λ r. ((r .below, omega (arith, r .near)), r .rounds))
+
+  rule2-told : Tells (holds l 64 rule2) (Rule2 l)
+  unfolding holds
   rule2-told = told (le and le) (λ h. record { from = h .0; to = h .1 }) (λ r. (r .from, r .to))
 
-  desk-told : (x : Desk Spot) → Tells (deskHolds l x) (DeskRule l x)
-  unfolding deskHolds isCurrent
-  desk-told idle = itself
-  desk-told (looked s) = told (le and lt and (eq implies lt)) (λ h. (h .0 .0, h .0 .1, h .1)) (λ r. ((r .0, r .1), r .2))
-  desk-told (claimed s) = eq and lt
-  desk-told (fetched s) = eq and lt
+  abbrev here : ℕ → Block
+  here t = recordOf (sizeOf (l .head)) (l .table) t
 
-  stage-told : (x : LentDesk) → Tells (leb (x .stage) 3 && deskHolds l (deskOf x)) ((x .stage ≤ 3) × DeskRule l (deskOf x))
-  stage-told x = le and desk-told (deskOf x)
+  -- a desk y that carries turn t, or is idle
+  abbrev Desk-told : ℕ → Desk Spot → Type 0
+  Desk-told t y = Tells (deskObeys (l .head .nb) (l .head .ne) (l .head .p) (here t) y) (DeskRule l y)
 
-  rule3-told : Tells (holds3 l) (Rule3 l)
-  unfolding holds3
+  looked-told : (s : Spot) → Desk-told (s .turn) (looked s)
+  looked-told s = told (le and lt and (current-told (s .turn) implies lt)) (λ h. (h .0 .0, h .0 .1, h .1)) (λ r. ((r .0, r .1), r .2))
+
+  holding-told : (h : Hold Spot) → Desk-told (h .at .turn) (holding h)
+  holding-told h = current-told (h .at .turn) and lt
+
+  desk-told : (x : LentDesk) → Desk-told (x .turn) (deskOf x)
+  unfolding deskOf
+  desk-told x =
+      let h = claimedAt (spotOf x) in
+      by-test (Desk-told (x .turn)) (eqb (x .stage) 1) (λ _. looked-told (spotOf x)) (λ _.
+      by-test (Desk-told (x .turn)) (eqb (x .stage) 2) (λ _. holding-told h) (λ _.
+      by-test (Desk-told (x .turn)) (eqb (x .stage) 3) (λ _. holding-told (withFetched h)) (λ _. itself)))
+
+  stage-told : (x : LentDesk) → Tells (leb (x .stage) 3 && deskObeys (l .head .nb) (l .head .ne) (l .head .p) (here (x .turn)) (deskOf x)) ((x .stage ≤ 3) × DeskRule l (deskOf x))
+  stage-told x = le and desk-told x
+
+  rule3-told : Tells (holds l 64 rule3) (Rule3 l)
+  unfolding holds obeys3
   rule3-told =
       let xs = l .head .desks in
       told (all-told (numbersOf idle) (omega arith, rw idle-past tt) stage-told xs and idles-told (l .head .t) xs and apart-told xs)
@@ -120,36 +147,38 @@ module _ (l : Line) where
       (λ r. ((λ d. (r .stages d, r .desks d), r .idles), r .apart))
 
   module _ (i : ℕ) where
-    zeros-told : Tells (isZeros l i) (getD (l .table) i unused ≡ unused)
-    unfolding isZeros
+    abbrev c : Block
+    c = getD (l .table) i unused
+
+    zeros-told : Tells (eqb (c .round) 0 && eqb (c .written) 0 && eqb (c .claimed) 0 && eqb (c .finished) 0) (c ≡ unused)
     zeros-told =
         told (eq and eq and eq and eq)
         (λ h j. record { round = h .0 .0 .0 j; written = h .0 .0 .1 j; claimed = h .0 .1 j; finished = h .1 j })
         (λ e. (((ap (λ (c : Block). c .round) e, ap (λ (c : Block). c .written) e), ap (λ (c : Block). c .claimed) e), ap (λ (c : Block). c .finished) e))
 
-    rule4-told : Tells (holds4 l i) (Rule4 l i)
-    unfolding holds4
+    rule4-told : Tells (holds l i rule4) (Rule4 l i)
+    unfolding holds
     rule4-told =
         told (choice le eq zeros-told)
         (λ h. record { round = h .0; zeros = λ u. h .1 (λ v. omega arith) })
         (λ r. (r .round, λ n. r .zeros (omega arith)))
 
-    rule5-told : Tells (holds5 l i) (Rule5 l i)
-    unfolding holds5
+    rule5-told : Tells (holds l i rule5) (Rule5 l i)
+    unfolding holds
     rule5-told =
         told (le implies (le and choice lt eq (eq or le)))
         (λ h. record { fits = λ u. h u .0; full = λ u. h u .1 .0; some = λ u e. h u .1 .1 (λ b. omega arith) })
         (λ r u. (r .fits u, (r .full u, λ n. r .some u (omega (arith, current-low (sizeOf (l .head)) (l .head .p) i)))))
 
-    rule6-told : Tells (holds6 l i) (Rule6 l i)
-    unfolding holds6
+    rule6-told : Tells (holds l i rule6) (Rule6 l i)
+    unfolding holds
     rule6-told =
         told (le implies (le and (eq implies eq)))
         (λ h. record { fits = λ u. h u .0; zeroth = λ u. h u .1 })
         (λ r u. (r .fits u, r .zeroth u))
 
-    rule7-told : Tells (holds7 l i) (Rule7 l i)
-    unfolding holds7
+    rule7-told : Tells (holds l i rule7) (Rule7 l i)
+    unfolding holds
     rule7-told = told (le implies eq) (λ h. record { holders = h }) (λ r. r .holders)
 
   rule-told : (i : ℕ) (r : Rule) → Tells (holds l i r) (Obeys l (ask i r))
@@ -234,7 +263,7 @@ module _ (l : Line) where
   unfolding firstBroken
   walk t x [] e h = (t, every-sound (rw (e, append-nil x) h))
   walk t x (q ∷ y) e h =
-      let r = rule-told l (q .place) (q .rule) in
+      let r = rule-told l (blocks l t) (q .place) (q .rule) in
       by-test Says (holds l (q .place) (q .rule))
       (λ s. walk t (x ++ (q ∷ [])) y (e ∙ sym (append-snoc x q y)) (every-more x q h (r .to s)))
       (λ s. (

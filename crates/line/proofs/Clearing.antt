@@ -12,10 +12,10 @@ use Rattle.words.specs.declared.Answer.{Answer}
 use Rattle.words.specs.declared.Answer.the-variants.{Done}
 use Rattle.book.specs.Choice.{if_then_else_}
 use Rattle.book.specs.Sizes.{Size, fits}
-use Rattle.book.specs.Steps.{Step, Desk, idle, looked, claimed, fetched}
+use Rattle.book.specs.Steps.{Step, Desk, idle, looked, Hold, holding, claimedAt, withFetched, isFetched, holdOf}
 use Rattle.book.specs.Counts.{unfetched, waiting}
 use Rattle.book.specs.Book as B
-use Rattle.book.specs.Cases.{put, get}
+use Rattle.book.specs.Messages.{put, get}
 use Rattle.book.specs.Clearing.{settles, settling}
 use Rattle.book.specs.Clearing as C
 use Rattle.book.proofs.Choice.{T→true}
@@ -64,8 +64,7 @@ module _ (l : Line) (b : B.Book) (a : ℕ) where
 settles-same : (z : Size) (d : ℕ) (x : Desk Spot) → settles d x ≡ settles d (asRow z x)
 settles-same z d idle = refl
 settles-same z d (looked s) = refl
-settles-same z d (claimed s) = refl
-settles-same z d (fetched s) = refl
+settles-same z d (holding h) = refl
 
 settling-same : (z : Size) (d : ℕ) (l : List LentDesk) → settling d (map deskOf l) ≡ settling d (map (λ x. asRow z (deskOf x)) l)
 unfolding settling

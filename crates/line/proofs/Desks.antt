@@ -12,7 +12,7 @@ use lib.Seq.{getD-take, take-set-lt}
 use Rattle.book.specs.Choice.{if_then_else_}
 use Rattle.book.specs.Total.{total}
 use Rattle.book.specs.Sizes.{Size}
-use Rattle.book.specs.Steps.{Desk, idle, looked, claimed, fetched, carried}
+use Rattle.book.specs.Steps.{Desk, idle, looked, Hold, holding, claimedAt, withFetched, isFetched, holdOf}
 use Rattle.book.specs.Book.{Row, Book, rowAt, rowOf}
 use Rattle.book.specs.Book as B
 use Rattle.book.proofs.Choice.{cases, same-test}
@@ -30,8 +30,7 @@ use Rattle.line.proofs.Front.{Matches, front-same, sizes, pos, near, pu
 abbrev pub IsLooked : Desk Spot → Type 0
 IsLooked idle = ⊥
 IsLooked (looked s) = Unit {0}
-IsLooked (claimed s) = ⊥
-IsLooked (fetched s) = ⊥
+IsLooked (holding h) = ⊥
 
 pub looked-not : (x : Desk Spot) → (IsLooked x → ⊥) → (s : Spot) → x ≡ looked s → ⊥
 looked-not x n s e = n (subst IsLooked (sym e) tt)
@@ -86,7 +85,10 @@ module _ (l : Line) (b : Book) (g : Agrees (sizeOf (l .head)) l b) where
   pub rule : (d : ℕ) (x : Desk Spot) → deskAt (l .head) d ≡ x → DeskRule l x
   rule d x e = rw e at (g .lawful .sound .three .desks d)
 
-  module _ (s : Spot) (r : DeskRule l (claimed s)) where
+  module _ (h : Hold Spot) (r : DeskRule l (holding h)) where
+    abbrev s : Spot
+    s = h .at
+
     pub held-current : Window z p (s .turn)
     held-current = current→window z p (s .turn) (pos l b g) (r .0)
 
@@ -102,8 +104,7 @@ module _ (l : Line) (b : Book) (g : Agrees (sizeOf (l .head)) l b) where
   unfolding B.heldIn
   held-same q idle r = refl
   held-same q (looked s) r = refl
-  held-same q (claimed s) r = rw (row-turn z (s .turn) (s .place) (held-fits s r))
-  held-same q (fetched s) r = rw (row-turn z (s .turn) (s .place) (held-fits s r))
+  held-same q (holding h) r = rw (row-turn z (h .at .turn) (h .at .place) (held-fits h r))
 
   held-total : (q : ℕ) → total (λ x. if B.heldIn z q x then 1 else 0) (b .desks) ≡ total (λ x. heldIn q (deskOf x)) (l .head .desks)
   held-total q =
@@ -112,8 +113,8 @@ module _ (l : Line) (b : Book) (g : Agrees (sizeOf (l .head)) l b) where
       (λ d. held-same q (deskAt (l .head) d) (rule d (deskAt (l .head) d) refl))
       (λ d h. ap (heldIn q) (g .lawful .sound .three .idles d h)))
 
-  pub busy-same : (q : ℕ) → Window z p q → isBusy z (l .table) q ≡ B.isBusy z b q
-  unfolding isBusy B.isBusy
+  pub busy-same : (q : ℕ) → Window z p q → isBusy (here q) ≡ B.isBusy z b q
+  unfolding B.isBusy
   busy-same q w =
       let n = total (λ (x : LentDesk). heldIn q (deskOf x)) (l .head .desks) in
       let c = here q in
@@ -133,7 +134,7 @@ module _ (l : Line) (b : Book) (g : Agrees (sizeOf (l .head)) l b) where
   sees-not tb x n s e = absurd (looked-not x n s e)
 
   pub sees-place : (tb : List Block) (s : Spot) → s .place ≤ (recordOf z tb (s .turn)) .claimed → Sees tb (looked s)
-  sees-place tb s h u e i = subst (λ (v : Spot). v .place ≤ (recordOf z tb (v .turn)) .claimed) (ap (carried nowhere) e) h
+  sees-place tb s h u e i = subst (λ (v : Spot). v .place ≤ (recordOf z tb (v .turn)) .claimed) (ap (λ (x : Desk Spot). (holdOf nowhere x) .at) e) h
 
   module _ (d : ℕ) (h : d < z .t) (x : Desk Spot) where
     abbrev pub changed : List Block → Line

@@ -11,8 +11,9 @@ use lib.Dec.{T, T-not, ltb→lt, nltb→le}
 use Rattle.book.specs.Choice.{_<ᵇ_, _≡ᵇ_}
 use Rattle.book.specs.Sizes.{Size}
 use Rattle.book.proofs.Choice.{by-test, cases, and-in, and-second, eq→eqb, ge→false, by-order}
-use Rattle.line.specs.Line.{Line, Block, Spot, sizeOf, recordOf, reach}
+use Rattle.line.specs.Line.{Line, Block, Spot, sizeOf, recordOf, takenOver, reach}
 use Rattle.line.specs.Rules.{Sound}
+use Rattle.line.proofs.Onward.{by-moves}
 use Rattle.line.proofs.Cells.{Cell, cell}
 
 module _ (l : Line) where
@@ -64,7 +65,7 @@ module _ (l : Line) where
 
   -- the next turn's spot
   abbrev onward : Spot → Spot
-  onward s = record { turn = suc (s .turn); place = (here (suc (s .turn))) .claimed }
+  onward s = takenOver z (l .table) s
 
   moved : (s r : Spot) → s .place ≡ (here (s .turn)) .written → s .turn < P → Ends (onward s) r → Ends s r
   moved s r e h x = (
@@ -103,17 +104,19 @@ module _ (l : Line) where
         absurd (T-not (full && below) f (and-in full below (eq→eqb (s .place) (l .head .ne) (e ∙ w)) b)))
         (nltb→le (s .turn) P)
 
+    -- nothing is left to read in its turn
+    read-out : {n : ℕ} (s : Spot) → Reads n s → T (not (isRead s)) → s .place ≡ (here (s .turn)) .written
+    read-out s r b = omega (arith, nltb→le (s .place) ((here (s .turn)) .written) b, r .place)
+
     reach-ends : (n : ℕ) (s : Spot) → Reads n s → Ends s (reach z n (l .table) P s)
     unfolding reach
     reach-ends zero s r = at-last s (r .place) (omega (arith, r .enough))
     reach-ends (suc n) s r =
         let full = s .place ≡ᵇ l .head .ne in
         let below = s .turn <ᵇ P in
-        by-test (Ends s) (isRead s) (at-once s) (λ b.
-        let e : s .place ≡ (here (s .turn)) .written = omega (arith, nltb→le (s .place) ((here (s .turn)) .written) b, r .place) in
-        by-test (Ends s) (full && below)
-        (λ m. let h = ltb→lt (s .turn) P (and-second full below m) in moved s _ e h (reach-ends n (onward s) (goes-on n s r h)))
-        (λ m. at-last s (r .place) (is-last (suc n) s r e m)))
+        by-moves z P (here (s .turn)) s (Ends s) (at-once s)
+        (λ b m. let h = ltb→lt (s .turn) P (and-second full below m) in moved s _ (read-out s r b) h (reach-ends n (onward s) (goes-on n s r h)))
+        (λ b m. at-last s (r .place) (is-last (suc n) s r (read-out s r b) m))
 
     begins : Reads (l .head .nb - 1) reading
     begins = record { from = le-refl (l .head .k); to = g .one .below; enough = omega (arith, g .one .near); place = g .two .to }
@@ -126,7 +129,7 @@ module _ (l : Line) where
     at-end : (n : ℕ) (s : Spot) → Reads n s → P ≤ s .turn → T (not (isRead s)) → s ≡ end
     at-end n s r h f =
         let t : s .turn ≡ P = omega (arith, r .to) in
-        let q : s .place ≡ (here (s .turn)) .written = omega (arith, nltb→le (s .place) ((here (s .turn)) .written) f, r .place) in
+        let q = read-out s r f in
         ap₂ (λ (i j : ℕ). spot i j) t (q ∙ ap (λ (i : ℕ). (here i) .written) t)
 
     reach-end : (n : ℕ) (s : Spot) → Reads n s → T (not (isRead (reach z n (l .table) P s))) → reach z n (l .table) P s ≡ end
@@ -135,11 +138,9 @@ module _ (l : Line) where
     reach-end (suc n) s r =
         let full = s .place ≡ᵇ l .head .ne in
         let below = s .turn <ᵇ P in
-        by-test AtEnd (isRead s) (λ b f. absurd (T-not (isRead s) f b)) (λ b.
-        let e : s .place ≡ (here (s .turn)) .written = omega (arith, nltb→le (s .place) ((here (s .turn)) .written) b, r .place) in
-        by-test AtEnd (full && below)
-        (λ m. reach-end n (onward s) (goes-on n s r (ltb→lt (s .turn) P (and-second full below m))))
-        (λ m. at-end (suc n) s r (is-last (suc n) s r e m)))
+        by-moves z P (here (s .turn)) s AtEnd (λ b f. absurd (T-not (isRead s) f b))
+        (λ b m. reach-end n (onward s) (goes-on n s r (ltb→lt (s .turn) P (and-second full below m))))
+        (λ b m. at-end (suc n) s r (is-last (suc n) s r (read-out s r b) m))
 
     pub empty-end : T (not (isRead reached)) → reached ≡ end
     empty-end = reach-end (l .head .nb - 1) reading begins

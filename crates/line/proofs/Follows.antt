@@ -10,7 +10,9 @@ use lib.ListN.{replicate, take}
 use Rattle.words.specs.declared.Answer.the-variants.{Refused}
 use Rattle.words.specs.declared.Refusal.the-variants.{Badstep}
 use Rattle.book.specs.Sizes.{Size, blockOf, fits}
-use Rattle.book.specs.Steps.{Deed, put, get, order, desk, unlisted, Desk, idle}
+use Rattle.book.specs.declared.Deed.{Deed}
+use Rattle.book.specs.declared.Deed.the-variants.{Put as put, Get as get, Order as order, Desk as desk, Unlisted as unlisted}
+use Rattle.book.specs.Steps.{Desk, idle}
 use Rattle.book.specs.Book.{Book}
 use Rattle.book.specs.Book as B
 use Rattle.book.proofs.Choice.{ge→false}

@@ -14,13 +14,15 @@ use lib.ListN.{length, set}
 use lib.Arith.{lt→nleb, le→nltb, digits-mod}
 use Rattle.words.specs.declared.Answer.the-variants.{Claimed}
 use Rattle.book.specs.Sizes.{Size, blockOf, currentTurn, isOwned}
-use Rattle.book.specs.Steps.{idle, looked, claimed}
+use Rattle.book.specs.Steps.{idle, looked, Hold, holding, claimedAt, withFetched, isFetched, holdOf}
 use Rattle.book.specs.Book.{Book, rowAt, rowOf, markGone}
 use Rattle.book.specs.Book as B
 use Rattle.book.proofs.Choice.{by-test₂, same-test, eq→eqb, le→true, and-first, and-second, and-in}
 use Rattle.book.proofs.Rows.{written-is, row-turn, mark-length, mark-label}
-use Rattle.line.specs.Line.{Line, Block, Spot, deskAt, sizeOf, oneClaimed, recordOf, winnable, claimStep}
+use Rattle.line.specs.Line.{Line, Block, Spot, deskAt, sizeOf, oneClaimed, recordOf}
+use Rattle.line.specs.Line as L
 use Rattle.line.specs.Agrees.{front, Agrees}
+use Rattle.line.proofs.DeskMoves.{winnable, claimStep}
 use Rattle.line.proofs.Current.{Window, record-same, record-apart, window→current, each-turn}
 use Rattle.line.proofs.Cells.{blocks-of}
 use Rattle.line.proofs.Front.{Matches, Follows, front-above, front-same, mark-front, pos, near, written-same}
@@ -88,7 +90,7 @@ module _ (l : Line) (b : Book) (g : Agrees (sizeOf (l .head)) l b) (d : ℕ) (h 
       (λ x. eq→eqb (c .claimed) (s .place) (omega (arith, g .looks d s e i, nltb→le (s .place) (c .claimed) x))))
 
   win-test : winnable z l s ≡ B.winnable z (b .rows) (b .k) row
-  unfolding winnable B.winnable
+  unfolding winnable L.wins B.winnable
   win-test =
       rw (above-test, row-turn z t (s .place) fits, g .turn)
       (and-swap (ltb k t) isStill (not ((rowAt (b .rows) row) .gone)) (λ i. still-test (ltb→lt k t i)))
@@ -97,11 +99,11 @@ module _ (l : Line) (b : Book) (g : Agrees (sizeOf (l .head)) l b) (d : ℕ) (h 
 
   module _ (w : T (winnable z l s)) where
     above : k < t
-    unfolding winnable
+    unfolding winnable L.wins
     above = ltb→lt k t (rw above-test at (and-first (isCurrent && isFree) isStill w))
 
     still : c .claimed ≡ s .place
-    unfolding winnable
+    unfolding winnable L.wins
     still = eqb→eq (c .claimed) (s .place) (and-second (isCurrent && isFree) isStill w)
 
     window : Window z p t
@@ -116,7 +118,7 @@ module _ (l : Line) (b : Book) (g : Agrees (sizeOf (l .head)) l b) (d : ℕ) (h 
     tb = set (l .table) (blockOf z t) (oneClaimed c)
 
     abbrev m : Line
-    m = changed l b g d h (claimed s) tb
+    m = changed l b g d h (holding (claimedAt s)) tb
 
     kept : (u : ℕ) → Window z p u
         → ((recordOf z tb u) .written ≡ (recordOf z (l .table) u) .written) × ((recordOf z (l .table) u) .claimed ≤ (recordOf z tb u) .claimed)
@@ -134,9 +136,9 @@ module _ (l : Line) (b : Book) (g : Agrees (sizeOf (l .head)) l b) (d : ℕ) (h 
         front-same z l m u refl refl refl
         (λ a i. ap (λ (x : Block). x .claimed) (record-apart z (l .table) t (oneClaimed c) p u window (near l b g u (omega arith) i) n))
 
-    won-matches : Matches z m (record { rows = markGone (b .rows) row; k = b .k; desks = set (b .desks) d (claimed row) })
+    won-matches : Matches z m (record { rows = markGone (b .rows) row; k = b .k; desks = set (b .desks) d (holding (claimedAt row)) })
     won-matches =
-        desk-matches l b g d h (claimed s) tb (markGone (b .rows) row) kept (sees-not l b g tb (claimed s) (λ x. x))
+        desk-matches l b g d h (holding (claimedAt s)) tb (markGone (b .rows) row) kept (sees-not l b g tb (holding (claimedAt s)) (λ x. x))
         (mark-length (b .rows) row) (λ n. mark-label (b .rows) row n on-list)
         (mark-front z (b .rows) (front z l) (front z m) t (s .place) fits on-list (front-above z l t above low ∙ still) front-won front-other (g .marks))
 

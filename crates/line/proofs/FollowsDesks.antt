@@ -2,7 +2,7 @@
 -- K stands at claimed, and one waits where claimed is not written. A fetch hands over the label of the spot that the
 -- desk holds, and a finish adds to finished alone; claim has a file of its own. The grid reads the stage, which is the
 -- same on both sides.
-use mathlib.Core.Path.{_≡_, refl, ap}
+use mathlib.Core.Path.{_≡_, refl, ap, sym, _∙_}
 use mathlib.Core.Bool.{Bool, not}
 use Prim.Native.Nat.{ℕ, _≤_, _<_}
 use native.Mathlib.Nat.{le-refl}
@@ -12,14 +12,18 @@ use lib.ListN.{set}
 use Rattle.words.specs.declared.Answer.the-variants.{Took, Refused}
 use Rattle.words.specs.declared.Refusal.the-variants.{Stage}
 use Rattle.book.specs.Sizes.{Size, blockOf, currentTurn}
-use Rattle.book.specs.Steps.{DeskStep, look, claim, fetch, finish, Desk, idle, looked, claimed, fetched, carried}
-use Rattle.book.specs.Verdicts.{takes, stage, column, atStage, admitted, lookable}
+use Rattle.book.specs.declared.DeskStep.{DeskStep}
+use Rattle.book.specs.declared.DeskStep.the-variants.{Look as look, Claim as claim, Fetch as fetch, Finish as finish}
+use Rattle.book.specs.Steps.{Desk, idle, looked, Hold, holding, claimedAt, withFetched, isFetched, holdOf}
+use Rattle.book.specs.declared.Verdict.the-variants.{Takes as takes, Refuses as refuses}
+use Rattle.book.specs.Verdicts.{stage, column, atStage, admitted, lookable}
 use Rattle.book.specs.Book.{Book, rowOf, waits}
 use Rattle.book.specs.Book as B
-use Rattle.book.proofs.Choice.{same-test, neq-test}
+use Rattle.book.proofs.Choice.{same-test, neq-test, by-test}
 use Rattle.book.proofs.Turns.{current-low, current-high}
-use Rattle.line.specs.Line.{Line, Block, Spot, nowhere, deskAt, sizeOf, oneFinished, recordOf, lookStep, fetchStep, finishStep, deskDoes, deskStep}
+use Rattle.line.specs.Line.{Line, Block, Spot, nowhere, deskAt, sizeOf, oneFinished, recordOf, deskDoes, deskStep}
 use Rattle.line.specs.Agrees.{asRow, Agrees}
+use Rattle.line.proofs.DeskMoves.{lookStep, fetchStep, finishStep, does-look, does-claim, does-fetch, does-finish}
 use Rattle.line.proofs.Current.{Window, each-turn}
 use Rattle.line.proofs.Cells.{blocks-of}
 use Rattle.line.proofs.Verdicts.{by-verdict₂, refuses-not, admitted-takes, lookable-same, lookable-takes}
@@ -38,8 +42,11 @@ admitted-same : (z : Size) (d : ℕ) (s : DeskStep) (x : Desk Spot) → admitted
 unfolding admitted
 admitted-same z d s idle = refl
 admitted-same z d s (looked x) = refl
-admitted-same z d s (claimed x) = refl
-admitted-same z d s (fetched x) = refl
+admitted-same z d s (holding h) = refl
+
+-- a desk that holds takes no step that neither a claimed nor a fetched desk takes
+held-not : (x : Hold Spot) (n : ℕ) → atStage 2 n ≡ refuses Stage → atStage 3 n ≡ refuses Stage → atStage (stage (holding x)) n ≡ takes → ⊥
+held-not x n c f = by-test (λ m. atStage m n ≡ takes → ⊥) (isFetched x) (λ _ t. refuses-not Stage (sym f ∙ t)) (λ _ t. refuses-not Stage (sym c ∙ t))
 
 module _ (l : Line) (b : Book) (g : Agrees (sizeOf (l .head)) l b) where
   abbrev z : Size
@@ -83,48 +90,52 @@ module _ (l : Line) (b : Book) (g : Agrees (sizeOf (l .head)) l b) where
 
     -- ---- fetch and finish
 
-    fetch-follows : (s : Spot) → deskAt (l .head) d ≡ claimed s → Follows z (fetchStep z l d s) (B.fetchStep z b d (rowOf z (s .turn) (s .place)))
-    unfolding fetchStep B.fetchStep
-    fetch-follows s e =
-        let r = rule l b g d (claimed s) e in
-        let w = held-current l b g s r in
-        record {
-          same = ap Took (g .labels s (w .low) (w .high) (held-written l b g s r));
-          matches = alone-matches l b g d h (fetched s) (sees-not l b g (l .table) (fetched s) (λ x. x));
-        }
+    module _ (x : Hold Spot) (e : deskAt (l .head) d ≡ holding x) where
+      abbrev s : Spot
+      s = x .at
 
-    finish-follows : (s : Spot) → deskAt (l .head) d ≡ fetched s → Follows z (finishStep z l d s) (B.finishStep z b d)
-    unfolding finishStep B.finishStep
-    finish-follows s e =
-        let w = held-current l b g s (rule l b g d (fetched s) e) in
-        let c = oneFinished (here (s .turn)) in
-        let tb = set (l .table) (blockOf z (s .turn)) c in
-        record {
-          same = refl;
-          matches = quiet-matches l b g d h idle tb
-              (each-turn z (l .table) p (s .turn) c (pos l b g) (blocks-of z l (g .lawful)) w
-              (λ u x. (x .written ≡ (here u) .written) × (x .claimed ≡ (here u) .claimed)) (refl, refl) (λ u _ _. (refl, refl)))
-              (sees-not l b g tb idle (λ x. x));
-        }
+      abbrev y : Hold ℕ
+      y = record { at = rowOf z (s .turn) (s .place); fetched = x .fetched }
+
+      fetch-follows : Follows z (fetchStep z l d x) (B.fetchStep z b d y)
+      unfolding fetchStep B.fetchStep
+      fetch-follows =
+          let r = rule l b g d (holding x) e in
+          let w = held-current l b g x r in
+          record {
+            same = ap Took (g .labels s (w .low) (w .high) (held-written l b g x r));
+            matches = alone-matches l b g d h (holding (withFetched x)) (sees-not l b g (l .table) (holding (withFetched x)) (λ x. x));
+          }
+
+      finish-follows : Follows z (finishStep z l d x) (B.finishStep z b d)
+      unfolding finishStep B.finishStep
+      finish-follows =
+          let w = held-current l b g x (rule l b g d (holding x) e) in
+          let c = oneFinished (here (s .turn)) in
+          let tb = set (l .table) (blockOf z (s .turn)) c in
+          record {
+            same = refl;
+            matches = quiet-matches l b g d h idle tb
+                (each-turn z (l .table) p (s .turn) c (pos l b g) (blocks-of z l (g .lawful)) w
+                (λ u x. (x .written ≡ (here u) .written) × (x .claimed ≡ (here u) .claimed)) (refl, refl) (λ u _ _. (refl, refl)))
+                (sees-not l b g tb idle (λ x. x));
+          }
 
     -- ---- the step that the grid lets the desk take
 
-    taken-follows : (s : DeskStep) (x : Desk Spot) → deskAt (l .head) d ≡ x → atStage (stage x) (column s) ≡ takes
-        → Follows z (deskDoes z l d (carried nowhere x) s) (B.deskDoes z b d (carried 0 (asRow z x)) s)
-    unfolding deskDoes B.deskDoes
-    taken-follows (look i) x e t = look-follows i
-    taken-follows claim idle e t = absurd (refuses-not Stage t)
-    taken-follows claim (looked s) e t = claim-follows l b g d h s e
-    taken-follows claim (claimed s) e t = absurd (refuses-not Stage t)
-    taken-follows claim (fetched s) e t = absurd (refuses-not Stage t)
-    taken-follows fetch idle e t = absurd (refuses-not Stage t)
-    taken-follows fetch (looked s) e t = absurd (refuses-not Stage t)
-    taken-follows fetch (claimed s) e t = fetch-follows s e
-    taken-follows fetch (fetched s) e t = absurd (refuses-not Stage t)
-    taken-follows finish idle e t = absurd (refuses-not Stage t)
-    taken-follows finish (looked s) e t = absurd (refuses-not Stage t)
-    taken-follows finish (claimed s) e t = absurd (refuses-not Stage t)
-    taken-follows finish (fetched s) e t = finish-follows s e
+    does-follows : (s : DeskStep) (x : Desk Spot) → deskAt (l .head) d ≡ x → atStage (stage x) (column s) ≡ takes
+        → Follows z (deskDoes z l d (holdOf nowhere x) s) (B.deskDoes z b d (holdOf 0 (asRow z x)) s)
+    unfolding B.deskDoes
+    does-follows (look i) x e t = rw (does-look z l d (holdOf nowhere x) i) (look-follows i)
+    does-follows claim idle e t = absurd (refuses-not Stage t)
+    does-follows claim (looked s) e t = rw (does-claim z l d (claimedAt s)) (claim-follows l b g d h s e)
+    does-follows claim (holding x) e t = absurd (held-not x 1 refl refl t)
+    does-follows fetch idle e t = absurd (refuses-not Stage t)
+    does-follows fetch (looked s) e t = absurd (refuses-not Stage t)
+    does-follows fetch (holding x) e t = rw (does-fetch z l d x) (fetch-follows x e)
+    does-follows finish idle e t = absurd (refuses-not Stage t)
+    does-follows finish (looked s) e t = absurd (refuses-not Stage t)
+    does-follows finish (holding x) e t = rw (does-finish z l d x) (finish-follows x e)
 
   pub desk-follows : (d : ℕ) (s : DeskStep) → Follows z (deskStep z l d s (deskAt (l .head) d)) (B.deskStep z b d s (B.deskAt b d))
   unfolding deskStep B.deskStep
@@ -132,5 +143,5 @@ module _ (l : Line) (b : Book) (g : Agrees (sizeOf (l .head)) l b) where
       let x = deskAt (l .head) d in
       rw (desk-same l b g d)
       (by-verdict₂ (Follows z) (admitted z d s x) (admitted z d s (asRow z x)) (admitted-same z d s x)
-      (λ e. let a = admitted-takes z d s x e in taken-follows d (a .0) s x refl (a .1))
+      (λ e. let a = admitted-takes z d s x e in does-follows d (a .0) s x refl (a .1))
       (λ w. stays z l b g (Refused w 0)))

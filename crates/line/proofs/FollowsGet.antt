@@ -18,6 +18,7 @@ use Rattle.book.proofs.Choice.{by-test, by-test₂, cases, choose-same, T→tru
 use Rattle.book.proofs.Rows.{first-fits, first-in, read-from, read-to, mark-length, mark-label}
 use Rattle.line.specs.Line.{Line, Block, Spot, sizeOf, withHead, getAt, recordOf, reach, readAt, getStep}
 use Rattle.line.specs.Agrees.{front, Agrees}
+use Rattle.line.proofs.Onward.{moves-by}
 use Rattle.line.proofs.Front.{Matches, Follows, front-below, front-here, front-above, front-past, front-is, mark-front}
 use Rattle.line.proofs.Front.{below, near, put-turn, written-full, front-le, first-front, first-above, waits-same}
 
@@ -68,9 +69,9 @@ module _ (l : Line) (b : Book) (g : Agrees (sizeOf (l .head)) l b) where
   reach-same zero zero t e h c = refl
   reach-same zero (suc m) t e h c = absurd (omega arith)
   reach-same (suc n) zero t e h c =
-      rw (ge→false t p (omega arith), and-false (eqb (place t) (z .ne))) (choose-same (ltb (place t) ((here t) .written)) (spot t))
+      rw (moves-by z p (here t) (spot t), ge→false t p (omega arith), and-false (eqb (place t) (z .ne))) (choose-same (ltb (place t) ((here t) .written)) (spot t))
   reach-same (suc n) (suc m) t e h c =
-      rw (waits-same l b g t (near l b g t c (omega arith)))
+      rw (moves-by z p (here t) (spot t), waits-same l b g t (near l b g t c (omega arith)))
       (cases (waiting t)
       (λ w. rw (T→true (waiting t) w))
       (λ w. rw (

@@ -15,13 +15,14 @@ use Rattle.words.specs.declared.Answer.the-variants.{Whole, Refused}
 use Rattle.words.specs.declared.Refusal.the-variants.{Range}
 use Rattle.book.specs.Sizes.{Size, isOrder, roundOf}
 use Rattle.book.specs.Steps.{looked}
-use Rattle.book.specs.Verdicts.{takes, placeable}
+use Rattle.book.specs.declared.Verdict.the-variants.{Takes as takes}
+use Rattle.book.specs.Verdicts.{placeable}
 use Rattle.book.specs.Book.{Row, Book, rowAt, rowOf, append}
 use Rattle.book.specs.Book as B
 use Rattle.book.proofs.Choice.{by-test, by-test₂, cases, neq-test, by-order}
 use Rattle.book.proofs.Rows.{row-append}
 use Rattle.book.proofs.Turns.{block-apart}
-use Rattle.line.specs.Line.{Line, Block, Spot, sizeOf, oneWritten, recordOf, entryOf, labelAt, labelled}
+use Rattle.line.specs.Line.{Line, Block, Spot, sizeOf, oneWritten, recordOf, entryOf, labelAt, newTurn, room, roomOf, labelled}
 use Rattle.line.specs.Line.{isBusy, mayPut, withLabel, putStep, putMany, orderStep}
 use Rattle.line.specs.Agrees.{front, Lawful, Agrees}
 use Rattle.line.proofs.Current.{Window, record-same, record-apart, entry-inj, entry-lt, each-turn}
@@ -52,9 +53,9 @@ module _ (l : Line) (b : Book) (g : Agrees (sizeOf (l .head)) l b) where
   unfolding mayPut B.mayPut
   put-verdict a =
       rw (put-turn l b g, written-same l b g p (put-window l b g))
-      (placeable-same z p ((here p) .written) k (isBusy z (l .table)) (B.isBusy z b) a
+      (placeable-same z p ((here p) .written) k (isBusy (here (p + 1 - z .nb))) (B.isBusy z b (p + 1 - z .nb)) a
       (λ h. busy-same l b g (p + 1 - z .nb) (record { low = omega (arith, pos l b g); high = omega arith }))
-      ∙ ap (λ (n : ℕ). placeable z p ((here p) .written) n (B.isBusy z b) a) (sym (g .turn)))
+      ∙ ap (λ (n : ℕ). placeable z p ((here p) .written) n (B.isBusy z b (p + 1 - z .nb)) a) (sym (g .turn)))
 
   -- ---- label a goes to place q of turn t, whose record is then c
 
@@ -75,7 +76,7 @@ module _ (l : Line) (b : Book) (g : Agrees (sizeOf (l .head)) l b) where
 
   module _ (a t q : ℕ) (c : Block) (e : Next t q c) where
     abbrev m : Line
-    m = labelled z l t q c a
+    m = labelled z l a (room z t q c)
 
     abbrev new : Row
     new = record { label = a; gone = false }
@@ -175,7 +176,7 @@ module _ (l : Line) (b : Book) (g : Agrees (sizeOf (l .head)) l b) where
   }
 
   abbrev started : Block
-  started = record { round = roundOf z (p + 1); written = 1; claimed = 0; finished = 0 }
+  started = newTurn (roundOf z (p + 1))
 
   next-turn : z .ne ≤ (here p) .written → p + 1 - k ≤ z .nb - 1 → Next (p + 1) 0 started
   next-turn h wide = record {
@@ -191,9 +192,9 @@ module _ (l : Line) (b : Book) (g : Agrees (sizeOf (l .head)) l b) where
 
   -- K is within the window of the line after it, which is sound
   stored-matches : (a : ℕ) → Lawful z (withLabel z l a) → Matches z (withLabel z l a) (append b a)
-  unfolding withLabel
+  unfolding withLabel roomOf
   stored-matches a =
-      by-test (λ x. Lawful z x → Matches z x (append b a)) (ltb ((here p) .written) (z .ne))
+      by-test (λ r. Lawful z (labelled z l a r) → Matches z (labelled z l a r) (append b a)) (ltb ((here p) .written) (z .ne))
       (λ s w. put-matches a p ((here p) .written) (oneWritten (here p)) (next-place (ltb→lt ((here p) .written) (z .ne) s)))
       (λ s w. put-matches a (p + 1) 0 started (next-turn (nltb→le ((here p) .written) (z .ne) s) (w .sound .one .near)))
 

@@ -16,16 +16,23 @@ use Rattle.words.specs.Words.{said}
 use Rattle.book.specs.Choice.{_<ᵇ_, _≤ᵇ_, _≡ᵇ_}
 use Rattle.book.specs.Total.{all}
 use Rattle.book.specs.Sizes.{Size, within, isLabel, isOrder, roundOf, isUsed, isOwned, currentTurn}
-use Rattle.book.specs.Steps.{Step, DeskStep, look, claim, fetch, finish, Deed, put, get, order, desk, unlisted, decode, Desk, carried}
-use Rattle.book.specs.Verdicts.{Verdict, takes, refuses, judge, grid, stage, column, atStage, noBlock, admitted, lookable, startable, placeable}
+use Rattle.book.specs.declared.DeskStep.{DeskStep}
+use Rattle.book.specs.declared.DeskStep.the-variants.{Look as look, Claim as claim, Fetch as fetch, Finish as finish}
+use Rattle.book.specs.declared.Deed.{Deed}
+use Rattle.book.specs.declared.Deed.the-variants.{Put as put, Get as get, Order as order, Desk as desk, Unlisted as unlisted}
+use Rattle.book.specs.Steps.{Step, decode, Desk, Hold, holding, claimedAt, withFetched, isFetched, holdOf}
+use Rattle.book.specs.declared.Verdict.{Verdict}
+use Rattle.book.specs.declared.Verdict.the-variants.{Takes as takes, Refuses as refuses}
+use Rattle.book.specs.Verdicts.{judge, grid, stage, column, atStage, noBlock, admitted, lookable, startable, placeable}
 use Rattle.book.proofs.Choice.{by-test, T→true, not→false}
 use Rattle.line.specs.Line.{Line, Outcome, Spot, says, refuse, nowhere, sizeOf, deskAt, recordOf, mayPut, withLabel, putStep, putMany, orderStep}
-use Rattle.line.specs.Line.{readAt, getStep, winnable, lookStep, claimStep, fetchStep, finishStep, deskDoes, deskStep, does}
+use Rattle.line.specs.Line.{readAt, getStep, deskDoes, deskStep, does}
 use Rattle.line.specs.Rules.{Sound}
 use Rattle.line.specs.Check.{Checked, sound, unfit, broken, fit, check}
 use Rattle.line.specs.Calls.{opens, passes, step, orders}
 use Rattle.line.specs.Survey.{surveys, survey, views, none, surveyed, survey·unfit, survey·damaged}
 use Rattle.line.specs.Demands.{CheckSound, Guarded, StepGuarded, OrderGuarded, SurveyGuarded, OpeningGuarded}
+use Rattle.line.proofs.DeskMoves.{winnable, lookStep, claimStep, fetchStep, finishStep, does-look, does-claim, does-fetch, does-finish}
 use Rattle.line.proofs.Tests.{all-at}
 use Rattle.line.proofs.Check.{Fit, Says, checked, broken-unsound, check-sound}
 
@@ -77,15 +84,15 @@ module _ (n : ℕ) where
         by-test LaterBy (isOwned z p k i) (λ _. tt) (λ _.
         by-test LaterBy (isUsed z p i && waits) (λ _. tt) (λ _. tt))
 
-    startable-later : (k : ℕ) (busy : ℕ → Bool) (next : ℕ) → LaterBy (startable z k busy next)
+    startable-later : (k : ℕ) (busy : Bool) (next : ℕ) → LaterBy (startable z k busy next)
     unfolding startable
     startable-later k busy next =
         by-test LaterBy (65536 ≤ᵇ roundOf z next) (λ _. tt) (λ _.
         by-test LaterBy (next <ᵇ z .nb) (λ _. tt) (λ _.
         by-test LaterBy (k ≤ᵇ next - z .nb) (λ _. tt) (λ _.
-        by-test LaterBy (busy (next - z .nb)) (λ _. tt) (λ _. tt))))
+        by-test LaterBy busy (λ _. tt) (λ _. tt))))
 
-    placeable-later : (p written k : ℕ) (busy : ℕ → Bool) (a : ℕ) → LaterBy (placeable z p written k busy a)
+    placeable-later : (p written k : ℕ) (busy : Bool) (a : ℕ) → LaterBy (placeable z p written k busy a)
     unfolding placeable
     placeable-later p written k busy a =
         by-test LaterBy (not (isLabel a)) (λ _. tt) (λ _.
@@ -120,16 +127,16 @@ module _ (z : Size) where
         let waits = not (c .claimed ≡ᵇ c .written) in
         judge-later 0 l (lookable z (l .head .p) (l .head .k) i waits) _ (lookable-later 0 z (l .head .p) (l .head .k) i waits) tt
 
-    taken-later : (d : ℕ) (s : Spot) (x : DeskStep) → Later (deskDoes z l d s x)
-    unfolding deskDoes claimStep fetchStep finishStep
-    taken-later d s (look i) = look-later d i
-    taken-later d s claim = by-test Later (winnable z l s) (λ _. tt) (λ _. tt)
-    taken-later d s fetch = tt
-    taken-later d s finish = tt
+    does-desk-later : (d : ℕ) (h : Hold Spot) (s : DeskStep) → Later (deskDoes z l d h s)
+    unfolding claimStep fetchStep finishStep
+    does-desk-later d h (look i) = rw (does-look z l d h i) (look-later d i)
+    does-desk-later d h claim = rw (does-claim z l d h) (by-test Later (winnable z l (h .at)) (λ _. tt) (λ _. tt))
+    does-desk-later d h fetch = rw (does-fetch z l d h) tt
+    does-desk-later d h finish = rw (does-finish z l d h) tt
 
     desk-later : (d : ℕ) (s : DeskStep) (x : Desk Spot) → Later (deskStep z l d s x)
     unfolding deskStep
-    desk-later d s x = judge-later 0 l (admitted z d s x) _ (admitted-later 0 z d s x) (taken-later d (carried nowhere x) s)
+    desk-later d s x = judge-later 0 l (admitted z d s x) _ (admitted-later 0 z d s x) (does-desk-later d (holdOf nowhere x) s)
 
     pub does-later : (e : Deed) → Later (does z l e)
     unfolding does putStep getStep

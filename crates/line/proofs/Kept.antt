@@ -11,8 +11,8 @@ use lib.Dec.{eqb, eqb→eq}
 use lib.ListN.{length, getD, set, length-set}
 use lib.Seq.{getD-set-same, getD-set-other}
 use Rattle.book.specs.Sizes.{Size, blockOf}
-use Rattle.book.specs.Steps.{Desk, idle, looked, claimed, fetched}
-use Rattle.book.proofs.Choice.{cases, neq-test, neq→eqb, eqb-same}
+use Rattle.book.specs.Steps.{Desk, idle, looked, Hold, holding, claimedAt, withFetched, isFetched, holdOf}
+use Rattle.book.proofs.Choice.{cases, neq-test, neq→eqb, eqb-same, by-test, T→true, not→false}
 use Rattle.book.proofs.Total.{total-set}
 use Rattle.line.specs.Line.{Line, LentDesk, Block, Head, Spot, numbersOf, deskOf, deskAt, withDesk, withHead, sizeOf}
 use Rattle.line.specs.Rules.{heldIn, Holds, Current, DeskRule, Rule3}
@@ -26,34 +26,31 @@ pub desk-lent : (x : Desk Spot) → deskOf (numbersOf x) ≡ x
 unfolding deskOf
 desk-lent idle = refl
 desk-lent (looked s) = refl
-desk-lent (claimed s) = refl
-desk-lent (fetched s) = refl
+desk-lent (holding h) =
+    let f = isFetched h in
+    cases f (λ t. rw (T→true f t) refl) (λ t. rw (not→false f t) refl)
 
 stage-lent : (x : Desk Spot) → (numbersOf x) .stage ≤ 3
 stage-lent idle = omega arith
 stage-lent (looked s) = omega arith
-stage-lent (claimed s) = omega arith
-stage-lent (fetched s) = omega arith
+stage-lent (holding h) = by-test (λ n. n ≤ 3) (isFetched h) (λ _. omega arith) (λ _. omega arith)
 
 -- ---- a desk that holds a spot
 
 pub held-one : (x : Desk Spot) (s : Spot) → Holds x s → heldIn (s .turn) x ≡ 1
 held-one idle s h = absurd h
 held-one (looked x) s h = absurd h
-held-one (claimed x) s h = rw (h, eqb-same (s .turn)) refl
-held-one (fetched x) s h = rw (h, eqb-same (s .turn)) refl
+held-one (holding x) s h = rw (h, eqb-same (s .turn)) refl
 
 pub held-none : (x : Desk Spot) (t : ℕ) → ((s : Spot) → Holds x s → s .turn ≢ t) → heldIn t x ≡ 0
 held-none idle t h = refl
 held-none (looked x) t h = refl
-held-none (claimed x) t h = rw (neq→eqb (x .turn) t (h x refl)) refl
-held-none (fetched x) t h = rw (neq→eqb (x .turn) t (h x refl)) refl
+held-none (holding x) t h = rw (neq→eqb (x .at .turn) t (h (x .at) refl)) refl
 
 pub held-rule : (l : Line) (x : Desk Spot) (s : Spot) → Holds x s → DeskRule l x → Current l (s .turn) × (s .place < (here l (s .turn)) .claimed)
 held-rule l idle s h o = absurd h
 held-rule l (looked x) s h o = absurd h
-held-rule l (claimed x) s h o = rw h at o
-held-rule l (fetched x) s h o = rw h at o
+held-rule l (holding x) s h o = rw h at o
 
 -- ---- one desk changes
 
@@ -117,8 +114,7 @@ pub desk-kept : (l l′ : Line) → l′ .head .ne ≡ l .head .ne → l .head .
     → DeskRule l x → DeskRule l′ x
 desk-kept l l′ e m saw idle held o = tt
 desk-kept l l′ e m saw (looked s) held o = (omega arith, omega arith, λ c. let k = saw (s .turn) (o .0) c in omega (arith, o .2 (k .0)))
-desk-kept l l′ e m saw (claimed s) held o = let k = held s refl (o .0) in (k .0, omega arith)
-desk-kept l l′ e m saw (fetched s) held o = let k = held s refl (o .0) in (k .0, omega arith)
+desk-kept l l′ e m saw (holding x) held o = let k = held (x .at) refl (o .0) in (k .0, omega arith)
 
 -- ---- the record of one turn changes
 

@@ -1,6 +1,8 @@
 pub mod Current
 pub mod Cells
 pub mod Tests
+pub mod DeskMoves
+pub mod Onward
 pub mod Check
 pub mod Guards
 pub mod Empty

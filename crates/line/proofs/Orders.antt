@@ -14,15 +14,17 @@ use Rattle.words.specs.declared.Refusal.{Refusal}
 use Rattle.words.specs.declared.Refusal.the-variants.{Range}
 use Rattle.book.specs.Choice.{_<ᵇ_}
 use Rattle.book.specs.Sizes.{Size, isOrder}
-use Rattle.book.specs.Steps.{order}
-use Rattle.book.specs.Verdicts.{Verdict, takes, refuses}
+use Rattle.book.specs.declared.Deed.the-variants.{Order as order}
+use Rattle.book.specs.declared.Verdict.{Verdict}
+use Rattle.book.specs.declared.Verdict.the-variants.{Takes as takes, Refuses as refuses}
 use Rattle.book.proofs.Choice.{by-test, T→true, by-order}
 use Rattle.line.specs.Line.{Line, Outcome, says, sizeOf, recordOf, mayPut, withLabel, putMany, orderStep, does}
 use Rattle.line.specs.Rules.{Sound}
 use Rattle.line.specs.Calls.{step, orders}
 use Rattle.line.specs.Refusals.{When, afterPuts, Places}
 use Rattle.line.specs.Demands.{Ordered, OrderedWhen, StepIsOrder}
-use Rattle.line.proofs.Refusals.{out-of-range, OfAnswer, put-range, when-refused, blocks}
+use Rattle.line.proofs.Check.{blocks}
+use Rattle.line.proofs.Refusals.{out-of-range, OfAnswer, put-range, when-refused}
 use Rattle.line.proofs.Guards.{orders-does}
 
 -- a proof by a verdict
@@ -79,9 +81,7 @@ module _ (z : Size) where
   -- a put leaves the size
   stored-size : (l : Line) (a : ℕ) → sizeOf ((withLabel z l a) .head) ≡ sizeOf (l .head)
   unfolding withLabel
-  stored-size l a =
-      let c = recordOf z (l .table) (l .head .p) in
-      by-test (λ (m : Line). sizeOf (m .head) ≡ sizeOf (l .head)) (c .written <ᵇ z .ne) (λ _. refl) (λ _. refl)
+  stored-size l a = refl
 
   size-kept : (n : ℕ) (l : Line) (a : ℕ) → sizeOf ((afterPuts z n l a) .head) ≡ sizeOf (l .head)
   unfolding afterPuts

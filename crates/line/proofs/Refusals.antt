@@ -14,21 +14,29 @@ use Rattle.words.specs.declared.Answer.the-variants.{Put, Got, Took, Whole, See
 use Rattle.words.specs.declared.Refusal.{Refusal}
 use Rattle.words.specs.declared.Refusal.the-variants.{Unfit, Damaged, Badstep, Nodesk, Noblock, Stage, Owned, Nothing, Lost, Notlabel, Range, Worn, Full, Busy, Empty}
 use Rattle.book.specs.Choice.{_<ᵇ_, _≤ᵇ_, _≡ᵇ_}
-use Rattle.book.specs.Sizes.{Size, isLabel, isOrder, blockOf, roundOf, isUsed, currentTurn, isOwned}
-use Rattle.book.specs.Steps.{Step, DeskStep, look, claim, fetch, finish, Deed, put, get, order, desk, unlisted, decode}
-use Rattle.book.specs.Steps.{Desk, idle, looked, claimed, fetched, carried}
-use Rattle.book.specs.Verdicts.{Verdict, refuses, judge, stage, column, atStage, noBlock, admitted, lookable, startable, placeable}
+use Rattle.book.specs.Sizes.{Size, highestLabel, isLabel, isOrder, blockOf, roundOf, isUsed, currentTurn, isOwned}
+use Rattle.book.specs.declared.DeskStep.{DeskStep}
+use Rattle.book.specs.declared.DeskStep.the-variants.{Look as look, Claim as claim, Fetch as fetch, Finish as finish}
+use Rattle.book.specs.declared.Deed.{Deed}
+use Rattle.book.specs.declared.Deed.the-variants.{Put as put, Get as get, Order as order, Desk as desk, Unlisted as unlisted}
+use Rattle.book.specs.Steps.{Step, decode}
+use Rattle.book.specs.Steps.{Desk, idle, looked, Hold, holding, claimedAt, withFetched, isFetched, holdOf}
+use Rattle.book.specs.declared.Verdict.{Verdict}
+use Rattle.book.specs.declared.Verdict.the-variants.{Refuses as refuses}
+use Rattle.book.specs.Verdicts.{judge, stage, column, atStage, noBlock, admitted, lookable, startable, placeable}
 use Rattle.book.proofs.Choice.{by-test, by-verdict, cases, T→true, not→false, and-first, and-second, and-false}
 use Rattle.book.proofs.Choice.{eq→eqb, eqb-same, lt→true, ge→false, le→true, gt→false}
 use Rattle.book.proofs.Turns.{current-low}
 use Rattle.line.specs.Line.{Line, Outcome, Block, Spot, nowhere, refuse, deskAt, getAt, withHead, sizeOf, recordOf, isBusy, mayPut, putStep, orderStep, readAt, getStep}
-use Rattle.line.specs.Line.{lookStep, winnable, claimStep, fetchStep, finishStep, deskDoes, deskStep, does}
+use Rattle.line.specs.Line.{deskDoes, deskStep, does}
+use Rattle.line.specs.Line as L
 use Rattle.line.specs.Rules.{Current, Sound}
 use Rattle.line.specs.Check.{fit, check}
 use Rattle.line.specs.Calls.{step, passes}
 use Rattle.line.specs.Refusals.{OnLine, Takes, Starts, When}
 use Rattle.line.specs.Demands.{RefusedWhen, RefusedLeaves, HeadAlone, LostLeaves, EmptyLeaves}
-use Rattle.line.proofs.Cells.{valid}
+use Rattle.line.proofs.DeskMoves.{lookStep, winnable, claimStep, fetchStep, finishStep, does-look, does-claim, does-fetch, does-finish}
+use Rattle.line.proofs.Check.{blocks}
 use Rattle.line.proofs.Empty.{reached, isRead, end, empty-when, empty-end}
 use Rattle.line.proofs.Guards.{step-does}
 
@@ -38,12 +46,12 @@ not-not : (b : Bool) → T (not (not b)) → T b
 not-not true t = t
 not-not false t = t
 
-pub out-of-range : (a b : ℕ) → T (not (isOrder a b)) ↔ ((b < a) ⊎ (999999 < b))
+pub out-of-range : (a b : ℕ) → T (not (isOrder a b)) ↔ ((b < a) ⊎ (highestLabel < b))
 unfolding isOrder isLabel
 out-of-range a b =
     let low = a ≤ᵇ b in (
-      λ n. cases low (λ t. inr (nleb→lt b 999999 (rw (T→true low t) at n))) (λ t. inl (nleb→lt a b t)),
-      ⊎-elim (λ h. rw (gt→false a b h) tt) (λ h. rw (gt→false b 999999 h, and-false low) tt),
+      λ n. cases low (λ t. inr (nleb→lt b highestLabel (rw (T→true low t) at n))) (λ t. inl (nleb→lt a b t)),
+      ⊎-elim (λ h. rw (gt→false a b h) tt) (λ h. rw (gt→false b highestLabel h, and-false low) tt),
     )
 
 -- what is said of WHOLE and of a refusal; of another answer nothing is said
@@ -95,25 +103,25 @@ module _ (l : Line) where
   next = P + 1
 
   put-told : (a : ℕ) → Says (put a) (putStep z l a)
-  unfolding putStep mayPut placeable startable isBusy isLabel
+  unfolding putStep mayPut placeable startable isLabel
   put-told a =
       let J = Judged (put a) _ in
       let c = here P in
       let q = next - NB in
-      by-test J (not (isLabel a)) (λ n. ((a, refl, nleb→lt a 999999 n), refl)) (λ n.
+      by-test J (not (isLabel a)) (λ n. ((a, refl, nleb→lt a highestLabel n), refl)) (λ n.
       by-test J (c .written <ᵇ l .head .ne) (λ _. tt) (λ f.
-      let s : Starts l a = record { label = leb→le a 999999 (not-not (isLabel a) n); full = nltb→le (c .written) (l .head .ne) f } in
+      let s : Starts l a = record { label = leb→le a highestLabel (not-not (isLabel a) n); full = nltb→le (c .written) (l .head .ne) f } in
       by-test J (65536 ≤ᵇ roundOf z next) (λ r. ((a, refl, s, leb→le 65536 (roundOf z next) r), refl)) (λ r.
       let low = nleb→lt 65536 (roundOf z next) r in
       by-test J (next <ᵇ NB) (λ _. tt) (λ b.
       let back = nltb→le next NB b in
       by-test J (K ≤ᵇ q) (λ k. ((a, refl, s, low, back, leb→le K q k), refl)) (λ k.
       let over = nleb→lt K q k in
-      by-test J (isBusy z (l .table) q) (λ h. ((a, refl, s, low, back, over, ltb→lt ((here q) .finished) ((here q) .claimed) h), refl)) (λ _. tt))))))
+      by-test J (isBusy (here q)) (λ h. ((a, refl, s, low, back, over, ltb→lt ((here q) .finished) ((here q) .claimed) h), refl)) (λ _. tt))))))
 
-  starts : (a : ℕ) → Starts l a → mayPut z l a ≡ startable z K (isBusy z (l .table)) next
+  starts : (a : ℕ) → Starts l a → mayPut z l a ≡ startable z K (isBusy (here (next - NB))) next
   unfolding mayPut placeable isLabel
-  starts a s = rw (le→true a 999999 (s .label), ge→false ((here P) .written) (l .head .ne) (s .full))
+  starts a s = rw (le→true a highestLabel (s .label), ge→false ((here P) .written) (l .head .ne) (s .full))
 
   put-refused : (a : ℕ) (w : Refusal) → mayPut z l a ≡ refuses w → (putStep z l a) .answer ≡ Refused w 0
   unfolding putStep
@@ -186,14 +194,14 @@ module _ (l : Line) where
     Wins = Current l u × (K < u) × ((here u) .claimed ≡ s .place)
 
     wins : T (winnable z l s) → Wins
-    unfolding winnable
+    unfolding winnable L.wins
     wins w =
         let e : Current l u = eqb→eq (turnAt (blockOf z u)) u (search and-first) in
         let f : T (not (isOwned z P K (blockOf z u))) = search (and-first, and-second) in
         (e, nleb→lt u K (rw (owned u e) at f), eqb→eq ((here u) .claimed) (s .place) (search and-second))
 
     won : Wins → T (winnable z l s)
-    unfolding winnable
+    unfolding winnable L.wins
     won h = let (e, k, q) = h in rw (owned u e, gt→false u K k, e, eqb-same u, q, eqb-same (s .place)) tt
 
     claim-told : (d : ℕ) → d < l .head .t → deskAt (l .head) d ≡ looked s → Says (desk d claim) (claimStep z l d s)
@@ -219,25 +227,37 @@ module _ (l : Line) where
     stage-told s o g = ((d, s, refl, h, o, g), refl)
 
     -- the grid, a stage at a time
-    grid-told : (x : Desk Spot) (s : DeskStep) → deskAt (l .head) d ≡ x → OnLine l s
-        → Judged (desk d s) (deskDoes z l d (carried nowhere x) s) (atStage (stage x) (column s))
-    unfolding deskDoes fetchStep finishStep
-    grid-told idle (look i) e o = look-told i d (record { there = h; on = o; grid = rw e })
+    abbrev At : ℕ → Hold Spot → DeskStep → Type 0
+    At n x s = Judged (desk d s) (deskDoes z l d x s) (atStage n (column s))
+
+    looks : (i : ℕ) (x : Hold Spot) → Takes l d (look i) → At 0 x (look i)
+    looks i x k = rw (does-look z l d x i) (look-told i d k)
+
+    module _ (x : Hold Spot) (e : deskAt (l .head) d ≡ holding x) where
+      claimed-told : T (not (isFetched x)) → (s : DeskStep) → OnLine l s → At 2 x s
+      unfolding fetchStep
+      claimed-told u (look i) o = stage-told (look i) o (rw (e, not→false (isFetched x) u))
+      claimed-told u claim o = stage-told claim o (rw (e, not→false (isFetched x) u))
+      claimed-told u fetch o = rw (does-fetch z l d x) tt
+      claimed-told u finish o = stage-told finish o (rw (e, not→false (isFetched x) u))
+
+      fetched-told : T (isFetched x) → (s : DeskStep) → OnLine l s → At 3 x s
+      unfolding finishStep
+      fetched-told f (look i) o = stage-told (look i) o (rw (e, T→true (isFetched x) f))
+      fetched-told f claim o = stage-told claim o (rw (e, T→true (isFetched x) f))
+      fetched-told f fetch o = stage-told fetch o (rw (e, T→true (isFetched x) f))
+      fetched-told f finish o = rw (does-finish z l d x) tt
+
+    grid-told : (x : Desk Spot) (s : DeskStep) → deskAt (l .head) d ≡ x → OnLine l s → At (stage x) (holdOf nowhere x) s
+    grid-told idle (look i) e o = looks i _ (record { there = h; on = o; grid = rw e })
     grid-told idle claim e o = stage-told claim o (rw e)
     grid-told idle fetch e o = stage-told fetch o (rw e)
     grid-told idle finish e o = stage-told finish o (rw e)
-    grid-told (looked s) (look i) e o = look-told i d (record { there = h; on = o; grid = rw e })
-    grid-told (looked s) claim e o = claim-told s d h e
+    grid-told (looked s) (look i) e o = looks i _ (record { there = h; on = o; grid = rw e })
+    grid-told (looked s) claim e o = rw (does-claim z l d (claimedAt s)) (claim-told s d h e)
     grid-told (looked s) fetch e o = stage-told fetch o (rw e)
     grid-told (looked s) finish e o = stage-told finish o (rw e)
-    grid-told (claimed s) (look i) e o = stage-told (look i) o (rw e)
-    grid-told (claimed s) claim e o = stage-told claim o (rw e)
-    grid-told (claimed s) fetch e o = tt
-    grid-told (claimed s) finish e o = stage-told finish o (rw e)
-    grid-told (fetched s) (look i) e o = stage-told (look i) o (rw e)
-    grid-told (fetched s) claim e o = stage-told claim o (rw e)
-    grid-told (fetched s) fetch e o = stage-told fetch o (rw e)
-    grid-told (fetched s) finish e o = tt
+    grid-told (holding x) s e o = by-test (λ n. At n x s) (isFetched x) (λ f. fetched-told x e f s o) (λ u. claimed-told x e u s o)
 
   desk-told : (d : ℕ) (s : DeskStep) → Says (desk d s) (deskStep z l d s (deskAt (l .head) d))
   unfolding deskStep admitted
@@ -247,7 +267,7 @@ module _ (l : Line) where
       let h = nleb→lt (l .head .t) d n in
       by-test J (noBlock z s) (λ b. (off-line d s h b, refl)) (λ b. grid-told d h (deskAt (l .head) d) s refl (on-line s .0 b)))
 
-  takes-step : (d : ℕ) (s : DeskStep) → Takes l d s → does z l (desk d s) ≡ deskDoes z l d (carried nowhere (deskAt (l .head) d)) s
+  takes-step : (d : ℕ) (s : DeskStep) → Takes l d s → does z l (desk d s) ≡ deskDoes z l d (holdOf nowhere (deskAt (l .head) d)) s
   unfolding does deskStep admitted
   takes-step d s k = rw (gt→false (l .head .t) d (k .there), not→false (noBlock z s) (on-line s .1 (k .on)), k .grid)
 
@@ -264,19 +284,19 @@ module _ (l : Line) where
 
     -- and a sentence settles the tests of its deed
     pub when-refused : (w : Refusal) (e : Deed) → When l w e → (does z l e) .answer ≡ Refused w 0
-    unfolding does putStep mayPut placeable startable isBusy isLabel orderStep getStep readAt deskStep admitted deskDoes lookStep lookable isOwned claimStep
+    unfolding does putStep mayPut placeable startable isLabel orderStep getStep readAt deskStep admitted lookStep lookable isOwned claimStep
     when-refused Unfit e h = absurd h
     when-refused Damaged e h = absurd h
     when-refused Badstep e h = rw h
     when-refused Nodesk e h = let (d, s, q, n) = h in rw (q, le→true (l .head .t) d n)
     when-refused Noblock e h = let (d, i, q, t, n) = h in rw (q, gt→false (l .head .t) d t, le→true NB i n)
     when-refused Stage e h = let (d, s, q, t, o, n) = h in rw (q, gt→false (l .head .t) d t, not→false (noBlock z s) (on-line s .1 o), n)
-    when-refused Owned e h = let (d, i, q, k, u, o) = h in rw (q, takes-step d (look i) k, le→true i P u, le→true (turnAt i) K o)
-    when-refused Nothing e h = let (d, i, q, k, n) = h in rw (q, takes-step d (look i) k, bare-refused i n)
+    when-refused Owned e h = let (d, i, q, k, u, o) = h in rw (q, takes-step d (look i) k, does-look z l d, le→true i P u, le→true (turnAt i) K o)
+    when-refused Nothing e h = let (d, i, q, k, n) = h in rw (q, takes-step d (look i) k, does-look z l d, bare-refused i n)
     when-refused Lost e h =
         let (d, s, q, t, x, n) = h in
-        rw (q, gt→false (l .head .t) d t, x, not→false (winnable z l s) (not-T (winnable z l s) (λ w. n (wins s w))))
-    when-refused Notlabel e h = let (a, q, n) = h in rw (q, gt→false a 999999 n)
+        rw (q, gt→false (l .head .t) d t, x, does-claim z l d (claimedAt s), not→false (winnable z l s) (not-T (winnable z l s) (λ w. n (wins s w))))
+    when-refused Notlabel e h = let (a, q, n) = h in rw (q, gt→false a highestLabel n)
     when-refused Range e h = let (a, b, q, n) = h in rw (q, not→false (isOrder a b) (out-of-range a b .1 n))
     when-refused Worn e h = let (a, q, s, r) = h in rw (q, starts a s, le→true 65536 (roundOf z next) r)
     when-refused Full e h =
@@ -287,10 +307,6 @@ module _ (l : Line) where
         let c = here (next - NB) in
         rw (q, starts a s, gt→false 65536 (roundOf z next) r, ge→false next NB b, gt→false K (next - NB) k, lt→true (c .finished) (c .claimed) n)
     when-refused Empty e h = let (q, r, c) = h in rw (q, not→false (isRead l (reached l)) (empty-when l pos g .1 (r, c)))
-
-pub blocks : (l : Line) → T (fit (sizeOf (l .head)) (l .table) (l .entries)) → 0 < l .head .nb
-unfolding fit
-blocks l f = omega (arith, valid (sizeOf (l .head)) (search and-first))
 
 pub refused-when : RefusedWhen
 unfolding RefusedWhen
@@ -317,12 +333,12 @@ module _ (l : Line) where
     unfolding readAt
     read-left s = by-test Left (s .place <ᵇ (recordOf z (l .table) (s .turn)) .written) (λ _. tt) (λ _. (λ _ h. absurd (h refl), refl, refl))
 
-    taken-left : (d : ℕ) (x : Spot) (s : DeskStep) → Left (deskDoes z l d x s)
-    unfolding deskDoes lookStep claimStep fetchStep finishStep
-    taken-left d x (look i) = by-verdict Left (lookable z (l .head .p) (l .head .k) i _) (λ _. tt) (λ w _. stays w)
-    taken-left d x claim = by-test Left (winnable z l x) (λ _. tt) (λ _. (λ h _. absurd (h refl), refl, refl))
-    taken-left d x fetch = tt
-    taken-left d x finish = tt
+    desk-left : (d : ℕ) (x : Hold Spot) (s : DeskStep) → Left (deskDoes z l d x s)
+    unfolding lookStep claimStep fetchStep finishStep
+    desk-left d x (look i) = rw (does-look z l d x i) (by-verdict Left (lookable z (l .head .p) (l .head .k) i _) (λ _. tt) (λ w _. stays w))
+    desk-left d x claim = rw (does-claim z l d x) (by-test Left (winnable z l (x .at)) (λ _. tt) (λ _. (λ h _. absurd (h refl), refl, refl)))
+    desk-left d x fetch = rw (does-fetch z l d x) tt
+    desk-left d x finish = rw (does-finish z l d x) tt
 
     does-left : (e : Deed) → NoOrder e → Left (does z l e)
     unfolding does putStep getStep deskStep
@@ -331,7 +347,7 @@ module _ (l : Line) where
     does-left (order a b) n = absurd (n a b refl)
     does-left (desk d s) n =
         let x = deskAt (l .head) d in
-        by-verdict Left (admitted z d s x) (λ _. taken-left d (carried nowhere x) s) (λ w _. stays w)
+        by-verdict Left (admitted z d s x) (λ _. desk-left d (holdOf nowhere x) s) (λ w _. stays w)
     does-left unlisted n = stays Badstep
 
   step-left : (s : Step) → NoOrder (decode s) → Left (step l s)
@@ -352,11 +368,12 @@ head-alone l s w n x e = let (_, t, c) = refusal-left l s w n x e in (t, c)
 -- ---- LOST and EMPTY
 
 pub lost-leaves : LostLeaves
-unfolding LostLeaves RefusedWhen does deskStep admitted deskDoes claimStep
+unfolding LostLeaves RefusedWhen does deskStep admitted claimStep
 lost-leaves l s n f g x e =
     let (d, y, q, t, k, o) = (refused-when l s Lost n f g x .0 e) .0 in
-    let w = winnable (sizeOf (l .head)) l y in
-    (d, q, rw (step-does l s f g, q, gt→false (l .head .t) d t, k, not→false w (not-T w (λ v. o (wins l y v)))) refl)
+    let z = sizeOf (l .head) in
+    let w = winnable z l y in
+    (d, q, rw (step-does l s f g, q, gt→false (l .head .t) d t, k, does-claim z l d (claimedAt y), not→false w (not-T w (λ v. o (wins l y v)))) refl)
 
 -- a get that is refused leaves K at P, and turn P read to its end
 abbrev Ended : Line → Outcome → Type 0

@@ -4,7 +4,8 @@ use mathlib.Core.Path.{_≡_, refl, ap₂}
 use mathlib.Core.List.{List, [], _∷_}
 use Rattle.words.specs.declared.Answer.{Answer}
 use Rattle.book.specs.Sizes.{Size, fits}
-use Rattle.book.specs.Steps.{Step, order, decode}
+use Rattle.book.specs.declared.Deed.the-variants.{Order as order}
+use Rattle.book.specs.Steps.{Step, decode}
 use Rattle.book.specs.Book as B
 use Rattle.book.specs.Demands.{Counting, NeverTwice, Handed, Bounded}
 use Rattle.book.proofs.Counting.{counting, never-twice}

@@ -8,7 +8,9 @@ use native.Mathlib.Omega.{arith}
 use lib.Dec.{T}
 use lib.ListN.{replicate, length-replicate}
 use Rattle.book.specs.Sizes.{Size, fits, blockOf}
-use Rattle.book.specs.Steps.{Deed, put, get, order, desk, unlisted, idle}
+use Rattle.book.specs.declared.Deed.{Deed}
+use Rattle.book.specs.declared.Deed.the-variants.{Put as put, Get as get, Order as order, Desk as desk, Unlisted as unlisted}
+use Rattle.book.specs.Steps.{idle}
 use Rattle.book.proofs.Total.{total-replicate, replicate-at}
 use Rattle.line.specs.Line.{Line, LentDesk, numbersOf, deskOf, deskAt, unused, recordOf, does, opened}
 use Rattle.line.specs.Rules.{heldIn}

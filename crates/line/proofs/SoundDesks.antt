@@ -12,14 +12,19 @@ use lib.Dec.{T, leb→le, le→leb, nleb→lt, eqb→eq}
 use lib.ListN.{length, set, length-set}
 use Rattle.book.specs.Choice.{_≤ᵇ_, _≡ᵇ_}
 use Rattle.book.specs.Sizes.{Size, blockOf, currentTurn, isUsed, isOwned}
-use Rattle.book.specs.Steps.{DeskStep, look, claim, fetch, finish, Desk, idle, looked, claimed, fetched, carried}
-use Rattle.book.specs.Verdicts.{Verdict, judge, stage, column, atStage, noBlock, admitted, lookable}
+use Rattle.book.specs.declared.DeskStep.{DeskStep}
+use Rattle.book.specs.declared.DeskStep.the-variants.{Look as look, Claim as claim, Fetch as fetch, Finish as finish}
+use Rattle.book.specs.Steps.{Desk, idle, looked, Hold, holding, claimedAt, withFetched, isFetched, holdOf}
+use Rattle.book.specs.declared.Verdict.{Verdict}
+use Rattle.book.specs.Verdicts.{judge, stage, column, atStage, noBlock, admitted, lookable}
 use Rattle.book.proofs.Choice.{by-test, and-first, and-second, T→true, neq-test, neq→eqb}
 use Rattle.book.proofs.Turns.{current-low, current-high}
-use Rattle.line.specs.Line.{Line, Block, Spot, Outcome, nowhere, numbersOf, deskAt, sizeOf, withDesk, withHead, withRecord}
-use Rattle.line.specs.Line.{oneClaimed, oneFinished, refuse, lookStep, winnable, claimStep, fetchStep, finishStep, deskDoes, deskStep}
+use Rattle.line.specs.Line.{Line, Block, Spot, Outcome, nowhere, numbersOf, deskAt, sizeOf, withDesk, withHead}
+use Rattle.line.specs.Line.{oneClaimed, oneFinished, refuse, deskDoes, deskStep}
+use Rattle.line.specs.Line as L
 use Rattle.line.specs.Rules.{heldIn, Holds, DeskRule}
 use Rattle.line.specs.Agrees.{Lawful}
+use Rattle.line.proofs.DeskMoves.{withRecord, lookStep, winnable, claimStep, fetchStep, finishStep, does-look, does-claim, does-fetch, does-finish}
 use Rattle.line.proofs.Current.{current→window, window→current, record-same}
 use Rattle.line.proofs.Cells.{Stands, here}
 use Rattle.line.proofs.ByTurns.{In, ByTurns, told, some-block, lawful}
@@ -82,9 +87,9 @@ module _ (l : Line) (g : ByTurns l) where
         (neq-test (c .claimed) (c .written) (and-second used waits m)) none)
         (λ _. unchanged))
 
-    fetch-lawful : (s : Spot) → was ≡ claimed s → Lawful z ((fetchStep z l d s) .line)
+    fetch-lawful : (x : Hold Spot) → was ≡ holding x → Lawful z ((fetchStep z l d x) .line)
     unfolding fetchStep
-    fetch-lawful s e = becomes (fetched s) (rw e at (g .three .desks d)) (λ u. rw e refl) (λ _ h. rw e h)
+    fetch-lawful x e = becomes (holding (withFetched x)) (rw e at (g .three .desks d)) (λ u. rw e refl) (λ _ h. rw e h)
 
     -- ---- desk d becomes x, and the record of turn t becomes c
 
@@ -111,7 +116,7 @@ module _ (l : Line) (g : ByTurns l) where
         space : s .place < (here l t) .written
 
       won : Won
-      unfolding winnable isOwned
+      unfolding winnable L.wins isOwned
       won =
           let i = blockOf z t in
           let a = currentTurn z p i ≡ᵇ t in let o = not (isOwned z p (l .head .k) i) in let b = (here l t) .claimed ≡ᵇ s .place in
@@ -129,7 +134,7 @@ module _ (l : Line) (g : ByTurns l) where
       abbrev c : Block
       c = oneClaimed (here l t)
 
-      one-claimed : Stands z p (set (l .head .desks) d (numbersOf (claimed s))) t c
+      one-claimed : Stands z p (set (l .head .desks) d (numbersOf (holding (claimedAt s)))) t c
       one-claimed = let o = g .turns t (won .turn) in record {
         round = o .round;
         fits = o .fits;
@@ -137,10 +142,10 @@ module _ (l : Line) (g : ByTurns l) where
         some = o .some;
         claims = omega (arith, won .still, won .space);
         zeroth = λ k. absurd (omega (arith, won .above));
-        holders = omega (arith, o .holders, holders-set (l .head) d (claimed s) there t, held-one (claimed s) s refl, ap (heldIn t) e);
+        holders = omega (arith, o .holders, holders-set (l .head) d (holding (claimedAt s)) there t, held-one (holding (claimedAt s)) s refl, ap (heldIn t) e);
       }
 
-      nobody : (i : ℕ) → i ≢ d → Apart (claimed s) (deskAt (l .head) i)
+      nobody : (i : ℕ) → i ≢ d → Apart (holding (claimedAt s)) (deskAt (l .head) i)
       nobody i _ x k h =
           let b : s .place < (here l t) .claimed = rw (← k) at (held-rule l (deskAt (l .head) i) x h (g .three .desks i) .1) in
           omega (arith, won .still)
@@ -148,9 +153,9 @@ module _ (l : Line) (g : ByTurns l) where
       grows : Grows l t c
       grows = record { turn = won .turn; claims = omega arith; writes = omega arith; reading = λ k. absurd (omega (arith, won .above)) }
 
-      wins : Lawful z (withRecord z l (withDesk (l .head) d (claimed s)) t c)
+      wins : Lawful z (withRecord z l (withDesk (l .head) d (holding (claimedAt s))) t c)
       wins =
-          both (claimed s) t c grows one-claimed
+          both (holding (claimedAt s)) t c grows one-claimed
           (λ u n. rw (e, neq→eqb t u (λ k. n (sym k))) refl)
           (window→current z p t (some-block l g) (won .turn), rw (record-same z (l .table) t c (some-block l g) (g .blocks)) (omega (arith, won .still)))
           nobody
@@ -161,48 +166,61 @@ module _ (l : Line) (g : ByTurns l) where
 
     -- ---- finish
 
-    module _ (s : Spot) (e : was ≡ fetched s) where
-      held-turn : In l (s .turn)
-      held-turn = let r : DeskRule l (fetched s) = rw e at (g .three .desks d) in current→window z p (s .turn) (some-block l g) (r .0)
+    module _ (x : Hold Spot) (e : was ≡ holding x) where
+      abbrev held : ℕ
+      held = x .at .turn
 
-      one-finished : Stands z p (set (l .head .desks) d (numbersOf idle)) (s .turn) (oneFinished (here l (s .turn)))
-      one-finished = let o = g .turns (s .turn) held-turn in record {
+      held-turn : In l held
+      held-turn = let r : DeskRule l (holding x) = rw e at (g .three .desks d) in current→window z p held (some-block l g) (r .0)
+
+      one-finished : Stands z p (set (l .head .desks) d (numbersOf idle)) held (oneFinished (here l held))
+      one-finished = let o = g .turns held held-turn in record {
         round = o .round;
         fits = o .fits;
         full = o .full;
         some = o .some;
         claims = o .claims;
         zeroth = o .zeroth;
-        holders = omega (arith, o .holders, holders-set (l .head) d idle there (s .turn), held-one (fetched s) s refl, ap (heldIn (s .turn)) e);
+        holders = omega (arith, o .holders, holders-set (l .head) d idle there held, held-one (holding x) (x .at) refl, ap (heldIn held) e);
       }
 
-      finish-lawful : Lawful z ((finishStep z l d s) .line)
+      finish-lawful : Lawful z ((finishStep z l d x) .line)
       unfolding finishStep
       finish-lawful =
-          both idle (s .turn) (oneFinished (here l (s .turn)))
+          both idle held (oneFinished (here l held))
           (record { turn = held-turn; claims = omega arith; writes = omega arith; reading = λ k. rw k at (g .two .from) }) one-finished
-          (λ u n. rw (e, neq→eqb (s .turn) u (λ k. n (sym k))) refl) tt (λ _ _ _ h. absurd h)
+          (λ u n. rw (e, neq→eqb held u (λ k. n (sym k))) refl) tt (λ _ _ _ h. absurd h)
 
     -- ---- the grid, a stage at a time
 
-    at-stage : (x : Desk Spot) (s : DeskStep) → was ≡ x → Judged (deskDoes z l d (carried nowhere x) s) (atStage (stage x) (column s))
-    unfolding deskDoes
-    at-stage idle (look i) e = look-lawful i (λ u. ap (heldIn u) e)
+    abbrev At : ℕ → Hold Spot → DeskStep → Type 0
+    At n x s = Judged (deskDoes z l d x s) (atStage n (column s))
+
+    looks : (i : ℕ) (x : Hold Spot) → ((u : ℕ) → heldIn u was ≡ 0) → At 0 x (look i)
+    looks i x none = rw (does-look z l d x i) (look-lawful i none)
+
+    claimed-lawful : (x : Hold Spot) (s : DeskStep) → was ≡ holding x → At 2 x s
+    claimed-lawful x (look i) e = unchanged
+    claimed-lawful x claim e = unchanged
+    claimed-lawful x fetch e = rw (does-fetch z l d x) (fetch-lawful x e)
+    claimed-lawful x finish e = unchanged
+
+    fetched-lawful : (x : Hold Spot) (s : DeskStep) → was ≡ holding x → At 3 x s
+    fetched-lawful x (look i) e = unchanged
+    fetched-lawful x claim e = unchanged
+    fetched-lawful x fetch e = unchanged
+    fetched-lawful x finish e = rw (does-finish z l d x) (finish-lawful x e)
+
+    at-stage : (x : Desk Spot) (s : DeskStep) → was ≡ x → At (stage x) (holdOf nowhere x) s
+    at-stage idle (look i) e = looks i _ (λ u. ap (heldIn u) e)
     at-stage idle claim e = unchanged
     at-stage idle fetch e = unchanged
     at-stage idle finish e = unchanged
-    at-stage (looked s) (look i) e = look-lawful i (λ u. ap (heldIn u) e)
-    at-stage (looked s) claim e = claim-lawful s e
+    at-stage (looked s) (look i) e = looks i _ (λ u. ap (heldIn u) e)
+    at-stage (looked s) claim e = rw (does-claim z l d (claimedAt s)) (claim-lawful s e)
     at-stage (looked s) fetch e = unchanged
     at-stage (looked s) finish e = unchanged
-    at-stage (claimed s) (look i) e = unchanged
-    at-stage (claimed s) claim e = unchanged
-    at-stage (claimed s) fetch e = fetch-lawful s e
-    at-stage (claimed s) finish e = unchanged
-    at-stage (fetched s) (look i) e = unchanged
-    at-stage (fetched s) claim e = unchanged
-    at-stage (fetched s) fetch e = unchanged
-    at-stage (fetched s) finish e = finish-lawful s e
+    at-stage (holding x) s e = by-test (λ n. At n x s) (isFetched x) (λ _. fetched-lawful x s e) (λ _. claimed-lawful x s e)
 
   own-desk : (d : ℕ) (s : DeskStep) → Lawful z ((deskStep z l d s (deskAt (l .head) d)) .line)
   unfolding deskStep admitted

@@ -9,8 +9,9 @@ use lib.Dec.{ltb→lt}
 use Rattle.book.specs.Choice.{_<ᵇ_, _≡ᵇ_}
 use Rattle.book.specs.Sizes.{Size}
 use Rattle.book.proofs.Choice.{by-test, and-second}
-use Rattle.line.specs.Line.{Line, Spot, Outcome, sizeOf, withHead, getAt, reach, readAt, getStep}
+use Rattle.line.specs.Line.{Line, Spot, Outcome, sizeOf, withHead, getAt, takenOver, reach, readAt, getStep}
 use Rattle.line.specs.Agrees.{Lawful}
+use Rattle.line.proofs.Onward.{by-moves}
 use Rattle.line.proofs.Cells.{here}
 use Rattle.line.proofs.ByTurns.{ByTurns, told, lawful}
 
@@ -38,7 +39,7 @@ module _ (l : Line) (g : ByTurns l) where
   })
 
   -- the owner moves on
-  on : (s : Spot) → Readable s → s .turn < l .head .p → Readable (record { turn = suc (s .turn); place = (here l (suc (s .turn))) .claimed })
+  on : (s : Spot) → Readable s → s .turn < l .head .p → Readable (takenOver z (l .table) s)
   on s r b =
       let c = g .turns (suc (s .turn)) (record { low = b; high = omega (arith, g .one .near, r .low) }) in
       record { low = omega (arith, r .low); high = b; from = omega arith; to = c .claims }
@@ -47,10 +48,9 @@ module _ (l : Line) (g : ByTurns l) where
   unfolding reach
   reach-readable zero s r = r
   reach-readable (suc n) s r =
-      by-test Readable (s .place <ᵇ (here l (s .turn)) .written) (λ _. r) (λ _.
-      by-test Readable (s .place ≡ᵇ z .ne && s .turn <ᵇ l .head .p)
-      (λ m. reach-readable n _ (on s r (ltb→lt (s .turn) (l .head .p) (and-second (s .place ≡ᵇ z .ne) (s .turn <ᵇ l .head .p) m))))
-      (λ _. r))
+      by-moves z (l .head .p) (here l (s .turn)) s Readable (λ _. r)
+      (λ _ m. reach-readable n _ (on s r (ltb→lt (s .turn) (l .head .p) (and-second (s .place ≡ᵇ z .ne) (s .turn <ᵇ l .head .p) m))))
+      (λ _ _. r)
 
   read-lawful : (s : Spot) → Readable s → Lawful z ((readAt z l s) .line)
   unfolding readAt

@@ -13,11 +13,13 @@ use lib.ListN.{set, length-set}
 use Rattle.book.specs.Choice.{_<ᵇ_, _≤ᵇ_, _≡ᵇ_}
 use Rattle.book.specs.Sizes.{Size, isLabel, isOrder, blockOf, roundOf}
 use Rattle.book.specs.Steps.{idle}
-use Rattle.book.specs.Verdicts.{Verdict, takes, refuses, startable, placeable}
+use Rattle.book.specs.declared.Verdict.{Verdict}
+use Rattle.book.specs.declared.Verdict.the-variants.{Takes as takes, Refuses as refuses}
+use Rattle.book.specs.Verdicts.{startable, placeable}
 use Rattle.book.proofs.Choice.{by-test, by-verdict, cases, T→true, not→false, neq-test}
 use Rattle.book.proofs.Total.{total-zero, total-none}
 use Rattle.line.specs.Line.{Line, LentDesk, Block, Spot, Outcome, numbersOf, deskOf, deskAt, sizeOf, oneWritten, entryOf}
-use Rattle.line.specs.Line.{isBusy, mayPut, labelled, withLabel, putStep, putMany, orderStep}
+use Rattle.line.specs.Line.{isBusy, mayPut, newTurn, room, roomOf, labelled, withLabel, putStep, putMany, orderStep}
 use Rattle.line.specs.Rules.{heldIn, Holds, DeskRule}
 use Rattle.line.specs.Agrees.{Lawful}
 use Rattle.line.proofs.Current.{current→window, window→current, record-apart, record-later, each-turn}
@@ -58,10 +60,10 @@ module _ (l : Line) (g : ByTurns l) where
     grows : Grows l p c
     grows = record { turn = last; claims = omega arith; writes = omega arith; reading = λ e. rw e at (g .two .from) }
 
-    same-lawful : Lawful z (labelled z l p ((here l p) .written) c a)
+    same-lawful : Lawful z (labelled z l a (room z p ((here l p) .written) c))
     same-lawful =
         let es = set (l .entries) entry a in
-        lawful (labelled z l p ((here l p) .written) c a)
+        lawful (labelled z l a (room z p ((here l p) .written) c))
         (told-record l g p c grows es (l .head .desks) (g .many) (length-set (l .entries) entry a) one-written (λ _ _. refl) (three-record l g p c grows es))
 
   -- ---- the first label of turn P + 1
@@ -70,7 +72,7 @@ module _ (l : Line) (g : ByTurns l) where
   next = p + 1
 
   abbrev new : Block
-  new = record { round = roundOf z next; written = 1; claimed = 0; finished = 0 }
+  new = newTurn (roundOf z next)
 
   held-in : (d : ℕ) (x : Spot) → Holds (deskAt (l .head) d) x → In l (x .turn)
   held-in d x h = current→window z p (x .turn) (some-block l g) (held-rule l (deskAt (l .head) d) x h (g .three .desks d) .0)
@@ -88,7 +90,7 @@ module _ (l : Line) (g : ByTurns l) where
 
   module _ (a : ℕ) (full : z .ne ≤ (here l p) .written) (f : Free) where
     abbrev l′ : Line
-    l′ = labelled z l next 0 new a
+    l′ = labelled z l a (room z next 0 new)
 
     first : In l′ next
     first = record { low = omega arith; high = omega (arith, some-block l g) }
@@ -169,18 +171,18 @@ module _ (l : Line) (g : ByTurns l) where
   Judged m takes = Lawful z m
   Judged m (refuses w) = Unit {0}
 
-  start-lawful : (a : ℕ) → z .ne ≤ (here l p) .written → Judged (labelled z l next 0 new a) (startable z (l .head .k) (isBusy z (l .table)) next)
-  unfolding startable isBusy
+  start-lawful : (a : ℕ) → z .ne ≤ (here l p) .written → Judged (labelled z l a (room z next 0 new)) (startable z (l .head .k) (isBusy (here l (next - z .nb))) next)
+  unfolding startable
   start-lawful a full =
       let q = next - z .nb in
-      let P = Judged (labelled z l next 0 new a) in
+      let P = Judged (labelled z l a (room z next 0 new)) in
       by-test P (65536 ≤ᵇ roundOf z next) (λ _. tt) (λ worn.
       let fresh = (div-lt-iff-lt-mul {k = z .nb} {x = next} {y = 65536} (some-block l g)) .0 (nleb→lt 65536 (roundOf z next) worn) in
       by-test P (next <ᵇ z .nb)
       (λ b. let c = ltb→lt next (z .nb) b in next-lawful a full (record { near = omega arith; spare = λ u e. absurd (omega arith); fresh = fresh })) (λ b.
       let c = nltb→le next (z .nb) b in
       by-test P (l .head .k ≤ᵇ q) (λ _. tt) (λ room.
-      by-test P ((here l q) .finished <ᵇ (here l q) .claimed) (λ _. tt) (λ busy.
+      by-test P (isBusy (here l q)) (λ _. tt) (λ busy.
       let s = g .turns q (record { low = omega arith; high = omega arith }) in
       let none : held (l .head .desks) q ≡ 0 = omega (arith, s .holders, nltb→le ((here l q) .finished) ((here l q) .claimed) busy) in
       next-lawful a full (record {
@@ -190,7 +192,7 @@ module _ (l : Line) (g : ByTurns l) where
       })))))
 
   own-stored : (a : ℕ) → Judged (withLabel z l a) (mayPut z l a)
-  unfolding mayPut placeable withLabel
+  unfolding mayPut placeable withLabel roomOf
   own-stored a =
       let w = (here l p) .written in
       by-test (Judged (withLabel z l a)) (not (isLabel a)) (λ _. tt) (λ _.

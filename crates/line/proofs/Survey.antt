@@ -15,15 +15,20 @@ use Rattle.words.specs.declared.Answer.the-variants.{Put, Got, Took, Whole, See
 use Rattle.words.specs.declared.Refusal.{Refusal}
 use Rattle.book.specs.Total.{total}
 use Rattle.book.specs.Sizes.{Size, fits}
-use Rattle.book.specs.Steps.{Step, look, desk, idle, decode}
-use Rattle.book.specs.Verdicts.{Verdict, takes, refuses, judge, admitted}
+use Rattle.book.specs.declared.DeskStep.the-variants.{Look as look}
+use Rattle.book.specs.declared.Deed.the-variants.{Desk as desk}
+use Rattle.book.specs.Steps.{Step, idle, decode}
+use Rattle.book.specs.declared.Verdict.{Verdict}
+use Rattle.book.specs.declared.Verdict.the-variants.{Takes as takes, Refuses as refuses}
+use Rattle.book.specs.Verdicts.{judge, admitted}
 use Rattle.book.proofs.Choice.{by-test, choose-true, choose-false, and-first, le→true, gt→false}
-use Rattle.line.specs.Line.{Line, Spot, Outcome, sizeOf, deskAt, lookStep, deskDoes, deskStep, does}
+use Rattle.line.specs.Line.{Line, Spot, Outcome, sizeOf, deskAt, deskDoes, deskStep, does}
 use Rattle.line.specs.Rules.{Sound}
 use Rattle.line.specs.Check.{fit}
 use Rattle.line.specs.Calls.{step}
 use Rattle.line.specs.Survey.{isSeen, seenFrom, bit, maskOf, lowestFrom, views, surveys, survey}
 use Rattle.line.specs.Demands.{bitAt, ones, LeastBit, CheckSound, SurveyTells}
+use Rattle.line.proofs.DeskMoves.{lookStep, does-look}
 use Rattle.line.proofs.Cells.{valid}
 use Rattle.line.proofs.Check.{check-sound}
 use Rattle.line.proofs.Guards.{step-does}
@@ -140,8 +145,8 @@ module _ (l : Line) where
   look-same d e b = simp judge-answer
 
   seen-same : (d e b : ℕ) → d < l .head .t → e < l .head .t → seen d b ≡ seen e b
-  unfolding deskStep deskDoes
-  seen-same d e b h k = simp (judge-answer, admitted-same d e b h k, look-same d e b)
+  unfolding deskStep
+  seen-same d e b h k = simp (judge-answer, admitted-same d e b h k, does-look z l d, does-look z l e, look-same d e b)
 
   -- and none sees a block that is not there
   seen-past : (d b : ℕ) → d < l .head .t → l .head .nb ≤ b → seen d b ≡ false

@@ -8,8 +8,11 @@ use lib.Dec.{ltb, leb, nltb→le, leb→le, nleb→lt}
 use Rattle.words.specs.declared.Refusal.{Refusal}
 use Rattle.words.specs.declared.Refusal.the-variants.{Nodesk, Noblock, Owned, Nothing}
 use Rattle.book.specs.Sizes.{Size, currentTurn, isOwned}
-use Rattle.book.specs.Steps.{DeskStep, Desk}
-use Rattle.book.specs.Verdicts.{Verdict, takes, refuses, judge, stage, column, atStage, noBlock, admitted, lookable, startable, placeable}
+use Rattle.book.specs.declared.DeskStep.{DeskStep}
+use Rattle.book.specs.Steps.{Desk}
+use Rattle.book.specs.declared.Verdict.{Verdict}
+use Rattle.book.specs.declared.Verdict.the-variants.{Takes as takes, Refuses as refuses}
+use Rattle.book.specs.Verdicts.{judge, stage, column, atStage, noBlock, admitted, lookable, startable, placeable}
 use Rattle.book.proofs.Choice.{by-test, cases, T→true, not→false, and-first}
 
 -- ---- one verdict on both sides
@@ -63,8 +66,7 @@ module _ (z : Size) where
 
   -- ---- a put
 
-  pub placeable-same : (p n k : ℕ) (f h : ℕ → Bool) (a : ℕ) → (z .nb ≤ p + 1 → f (p + 1 - z .nb) ≡ h (p + 1 - z .nb))
-      → placeable z p n k f a ≡ placeable z p n k h a
+  pub placeable-same : (p n k : ℕ) (f h : Bool) (a : ℕ) → (z .nb ≤ p + 1 → f ≡ h) → placeable z p n k f a ≡ placeable z p n k h a
   unfolding placeable startable
   placeable-same p n k f h a e =
       cases (ltb (p + 1) (z .nb)) (λ s. rw (T→true (ltb (p + 1) (z .nb)) s)) (λ s. rw (e (nltb→le (p + 1) (z .nb) s)))

@@ -6,7 +6,7 @@ use lib.Dec.{T}
 use lib.ListN.{length, take}
 use Rattle.book.specs.Choice.{if_then_else_, _<ᵇ_, _≤ᵇ_, _≡ᵇ_}
 use Rattle.book.specs.Sizes.{Size}
-use Rattle.book.specs.Steps.{Desk, idle, looked, claimed, fetched}
+use Rattle.book.specs.Steps.{Desk, idle, looked, holding}
 use Rattle.book.specs.Book.{Book, rowAt, rowOf}
 use Rattle.line.specs.Line.{Line, Spot, deskOf, deskAt, sizeOf, recordOf, labelAt}
 use Rattle.line.specs.Rules.{Sound}
@@ -17,8 +17,7 @@ module _ (z : Size) where
   abbrev pub asRow : Desk Spot → Desk ℕ
   asRow idle = idle
   asRow (looked s) = looked (rowOf z (s .turn) (s .place))
-  asRow (claimed s) = claimed (rowOf z (s .turn) (s .place))
-  asRow (fetched s) = fetched (rowOf z (s .turn) (s .place))
+  asRow (holding h) = holding (record { at = rowOf z (h .at .turn) (h .at .place); fetched = h .fetched })
 
   -- how many rows of turn t are gone, always its first ones
   unfoldable pub front : Line → ℕ → ℕ

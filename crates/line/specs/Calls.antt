@@ -6,7 +6,9 @@ use Rattle.words.specs.declared.Refusal.the-variants.{Unfit, Damaged}
 use Rattle.book.specs.Choice.{if_then_else_}
 use Rattle.book.specs.Sizes.{Size}
 use Rattle.book.specs.Steps.{Step, decode}
-use Rattle.book.specs.Verdicts.{Verdict, takes, refuses, judge}
+use Rattle.book.specs.declared.Verdict.{Verdict}
+use Rattle.book.specs.declared.Verdict.the-variants.{Takes as takes, Refuses as refuses}
+use Rattle.book.specs.Verdicts.{judge}
 use Rattle.line.specs.Line.{Line, Outcome, sizeOf, refuse, orderStep, does, opened}
 use Rattle.line.specs.Check.{Checked, sound, unfit, broken, fit, check}
 pub use Rattle.line.specs.declared.Opening.{Opening}

@@ -8,11 +8,11 @@ use Rattle.words.specs.declared.Answer.the-variants.{Put, Got, Took, Whole, See
 use Rattle.words.specs.declared.Refusal.the-variants.{Unfit, Damaged, Badstep, Nodesk, Noblock, Stage, Owned, Nothing}
 use Rattle.words.specs.declared.Refusal.the-variants.{Lost, Notlabel, Range, Worn, Full, Busy, Empty}
 use Rattle.book.specs.Sizes.{Size}
-use Rattle.book.specs.Steps.{Step, idle, looked, claimed, fetched}
+use Rattle.book.specs.Steps.{Step, idle, looked}
 use Rattle.line.specs.Line.{Line, Outcome, says, numbersOf, opened}
 use Rattle.line.specs.Calls.{Opened, open·line, open·unfit, opens, step, orders, answers, after}
 use Rattle.line.specs.Survey.{Surveyed, surveyed, survey·unfit, survey·damaged, Findings, survey}
-use Rattle.line.specs.Samples.{size, spot, fresh, started, middle, read, won, ends, stolen, five, lengths, short}
+use Rattle.line.specs.Samples.{claimed, fetched, size, spot, fresh, started, middle, read, won, ends, stolen, five, lengths, short}
 use Rattle.line.specs.Samples.{withP, withK, withReading, withDesk, withStage, withRound, withWritten, withClaimed, withFinished, withEntry}
 
 -- ---- runs

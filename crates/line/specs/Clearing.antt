@@ -13,7 +13,7 @@ use Rattle.words.specs.declared.Refusal.the-variants.{Worn, Busy, Empty}
 use Rattle.book.specs.Sizes.{Size, fits, isLabel, roundOf}
 use Rattle.book.specs.Steps.{Step}
 use Rattle.book.specs.Counts.{placed, got, took}
-use Rattle.book.specs.Cases.{put, get}
+use Rattle.book.specs.Messages.{put, get}
 use Rattle.book.specs.Clearing.{settling}
 use Rattle.line.specs.Line.{Line, sizeOf, deskOf, deskAt, opened}
 use Rattle.line.specs.Rules.{heldIn}

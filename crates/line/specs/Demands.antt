@@ -9,8 +9,11 @@ use Rattle.words.specs.declared.Answer.the-variants.{Whole, Seen, Refused}
 use Rattle.words.specs.declared.Refusal.{Refusal}
 use Rattle.words.specs.declared.Refusal.the-variants.{Unfit, Damaged, Lost, Range, Empty}
 use Rattle.book.specs.Sizes.{Size, fits, isOrder}
-use Rattle.book.specs.Steps.{Step, look, claim, Deed, get, order, desk, idle, decode}
-use Rattle.book.specs.Verdicts.{refuses}
+use Rattle.book.specs.declared.DeskStep.the-variants.{Look as look, Claim as claim}
+use Rattle.book.specs.declared.Deed.{Deed}
+use Rattle.book.specs.declared.Deed.the-variants.{Get as get, Order as order, Desk as desk}
+use Rattle.book.specs.Steps.{Step, idle, decode}
+use Rattle.book.specs.declared.Verdict.the-variants.{Refuses as refuses}
 use Rattle.book.specs.Book as B
 use Rattle.book.specs.Counts.{placed, got, took, won, lost, unfetched, waiting, handed, times, bound}
 use Rattle.line.specs.Line.{Line, Outcome, sizeOf, deskAt, getAt, withDesk, withHead, recordOf, deskStep, mayPut, opened}

@@ -1,5 +1,6 @@
 pub mod Line
 pub mod Rules
+pub mod Tests
 pub mod Check
 pub mod Calls
 pub mod Survey
@@ -12,3 +13,4 @@ pub mod Samples
 pub mod Damaged
 pub mod Cases
 pub mod ClearingCases
+pub mod Numbers

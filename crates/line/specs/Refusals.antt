@@ -5,9 +5,14 @@ use mathlib.Core.Logic.{_⊎_}
 use Prim.Native.Nat.{ℕ, zero, suc, _+_, _-_, _≤_, _<_}
 use Rattle.words.specs.declared.Refusal.{Refusal}
 use Rattle.words.specs.declared.Refusal.the-variants.{Unfit, Damaged, Badstep, Nodesk, Noblock, Stage, Owned, Nothing, Lost, Notlabel, Range, Worn, Full, Busy, Empty}
-use Rattle.book.specs.Sizes.{Size, roundOf, currentTurn}
-use Rattle.book.specs.Steps.{DeskStep, look, claim, fetch, finish, Deed, put, get, order, desk, unlisted, looked}
-use Rattle.book.specs.Verdicts.{takes, refuses, stage, column, atStage}
+use Rattle.book.specs.Sizes.{Size, highestLabel, roundOf, currentTurn}
+use Rattle.book.specs.declared.DeskStep.{DeskStep}
+use Rattle.book.specs.declared.DeskStep.the-variants.{Look as look, Claim as claim, Fetch as fetch, Finish as finish}
+use Rattle.book.specs.declared.Deed.{Deed}
+use Rattle.book.specs.declared.Deed.the-variants.{Put as put, Get as get, Order as order, Desk as desk, Unlisted as unlisted}
+use Rattle.book.specs.Steps.{looked}
+use Rattle.book.specs.declared.Verdict.the-variants.{Takes as takes, Refuses as refuses}
+use Rattle.book.specs.Verdicts.{stage, column, atStage}
 use Rattle.line.specs.Line.{Line, Block, Spot, deskAt, sizeOf, recordOf, withLabel, mayPut}
 use Rattle.line.specs.Rules.{Current}
 
@@ -33,7 +38,7 @@ module _ (l : Line) where
 
   -- a put of label a that has to start turn P + 1
   pub record Starts (a : ℕ) : Type 0 where
-    pub label : a ≤ 999999
+    pub label : a ≤ highestLabel
     pub full : l .head .ne ≤ (here (l .head .p)) .written
 
   abbrev next : ℕ
@@ -53,8 +58,8 @@ module _ (l : Line) where
   When Lost e =
       (d : ℕ) × (s : Spot) × (e ≡ desk d claim) × (d < l .head .t) × (deskAt (l .head) d ≡ looked s)
       × (Current l (s .turn) × (l .head .k < s .turn) × ((here (s .turn)) .claimed ≡ s .place) → ⊥)
-  When Notlabel e = (a : ℕ) × (e ≡ put a) × (999999 < a)
-  When Range e = (a : ℕ) × (b : ℕ) × (e ≡ order a b) × ((b < a) ⊎ (999999 < b))
+  When Notlabel e = (a : ℕ) × (e ≡ put a) × (highestLabel < a)
+  When Range e = (a : ℕ) × (b : ℕ) × (e ≡ order a b) × ((b < a) ⊎ (highestLabel < b))
   When Worn e = (a : ℕ) × (e ≡ put a) × Starts a × (65536 ≤ roundOf z next)
   When Full e = (a : ℕ) × (e ≡ put a) × Starts a × (roundOf z next < 65536) × (l .head .nb ≤ next) × (l .head .k ≤ next - l .head .nb)
   When Busy e =

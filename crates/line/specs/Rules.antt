@@ -7,21 +7,19 @@ use lib.ListN.{getD}
 use Rattle.book.specs.Choice.{if_then_else_, _≡ᵇ_}
 use Rattle.book.specs.Total.{total}
 use Rattle.book.specs.Sizes.{Size, blockOf, roundOf, currentTurn}
-use Rattle.book.specs.Steps.{Desk, idle, looked, claimed, fetched}
+use Rattle.book.specs.Steps.{Desk, idle, looked, holding}
 use Rattle.line.specs.Line.{Line, Block, Spot, numbersOf, deskOf, deskAt, unused, sizeOf, recordOf}
 
--- is this desk claimed or fetched: in turn t, as a count; at spot s
+-- does this desk hold: in turn t, as a count; spot s
 abbrev pub heldIn : ℕ → Desk Spot → ℕ
 heldIn t idle = 0
 heldIn t (looked s) = 0
-heldIn t (claimed s) = if s .turn ≡ᵇ t then 1 else 0
-heldIn t (fetched s) = if s .turn ≡ᵇ t then 1 else 0
+heldIn t (holding h) = if h .at .turn ≡ᵇ t then 1 else 0
 
 abbrev pub Holds : Desk Spot → Spot → Type 0
 Holds idle s = ⊥
 Holds (looked x) s = ⊥
-Holds (claimed x) s = x ≡ s
-Holds (fetched x) s = x ≡ s
+Holds (holding h) s = h .at ≡ s
 
 module _ (l : Line) where
   abbrev z : Size
@@ -46,8 +44,7 @@ module _ (l : Line) where
   abbrev pub DeskRule : Desk Spot → Type 0
   DeskRule idle = Unit {0}
   DeskRule (looked s) = (s .turn ≤ l .head .p) × (s .place < l .head .ne) × (Current (s .turn) → s .place < (here (s .turn)) .written)
-  DeskRule (claimed s) = Current (s .turn) × (s .place < (here (s .turn)) .claimed)
-  DeskRule (fetched s) = Current (s .turn) × (s .place < (here (s .turn)) .claimed)
+  DeskRule (holding h) = Current (h .at .turn) × (h .at .place < (here (h .at .turn)) .claimed)
 
   -- a stage above 3 is no stage
   pub record Rule3 : Type 0 where

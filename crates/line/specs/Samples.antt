@@ -4,7 +4,7 @@ use mathlib.Core.List.{List, [], _∷_, _++_, map}
 use Prim.Native.Nat.{ℕ, _-_}
 use lib.ListN.{length, getD, set, replicate}
 use Rattle.book.specs.Sizes.{Size}
-use Rattle.book.specs.Steps.{Desk, idle, looked, claimed, fetched}
+use Rattle.book.specs.Steps.{Desk, idle, looked, holding, claimedAt, withFetched}
 use Rattle.line.specs.Line.{Line, Block, LentDesk, Spot, numbersOf, putAt, getAt, unused, withHead}
 
 -- ---- lines written out
@@ -14,6 +14,13 @@ size nb ne t = record { nb = nb; ne = ne; t = t }
 
 abbrev pub spot : ℕ → ℕ → Spot
 spot t q = record { turn = t; place = q }
+
+-- a desk that holds spot s
+abbrev pub claimed : Spot → Desk Spot
+claimed s = holding (claimedAt s)
+
+abbrev pub fetched : Spot → Desk Spot
+fetched s = holding (withFetched (claimedAt s))
 
 -- a record by its round, written, claimed and finished
 abbrev pub block : ℕ → ℕ → ℕ → ℕ → Block

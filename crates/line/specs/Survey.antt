@@ -6,7 +6,8 @@ use Rattle.words.specs.declared.Answer.{Answer}
 use Rattle.words.specs.declared.Answer.the-variants.{Put, Got, Took, Whole, Seen, Claimed, Done, Refused}
 use Rattle.book.specs.Choice.{if_then_else_}
 use Rattle.book.specs.Total.{total}
-use Rattle.book.specs.Steps.{look, idle}
+use Rattle.book.specs.declared.DeskStep.the-variants.{Look as look}
+use Rattle.book.specs.Steps.{idle}
 use Rattle.line.specs.Line.{Line, sizeOf, deskStep}
 use Rattle.line.specs.Check.{Checked, sound, unfit, broken, check}
 pub use Rattle.line.specs.declared.Surveyed.{Surveyed}

@@ -1,10 +1,11 @@
-// The line: its records, and what each call means on them. Definitions and theorems, no code.
+// The line: its records, and what each call means on them. Definitions and theorems; of code only the types.
 //
 // The records are numbers only, so that a portal lends its own memory. specs/Line.antt has the
 // steps, specs/Rules.antt the rules of a sound line in the paper's words, specs/Check.antt the check,
 // specs/Calls.antt what a caller gets. specs/Demands.antt states demands 1 to 3; proofs/ proves them.
 // Beyond the demands, specs/FirstOut.antt says in which order labels come out, and specs/Clearing.antt
 // that nothing is ever stuck.
+use words::Answer;
 
 // A desk: stage 0 is idle, 1 looked, 2 claimed, 3 fetched. An idle desk's turn and place are not read.
 #[repr(C)]
@@ -31,6 +32,21 @@ pub struct Head {
     pub p: u32,
     pub k: u32,
     pub desks: [Desk; 16],
+}
+
+// Where a label goes: turn, block and place; and the record that the block has after it.
+pub struct Room {
+    pub turn: u32,
+    pub block: usize,
+    pub place: u32,
+    pub after: Block,
+}
+
+// What a desk's step leaves: the answer, the desk, and the record of the block that the step read.
+pub struct Moved {
+    pub answer: Answer,
+    pub desk: Desk,
+    pub block: Block,
 }
 
 // What opening answers.

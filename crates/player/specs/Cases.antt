@@ -8,7 +8,8 @@ use Prim.Native.String.{String}
 use lib.ListN.{length, take}
 use Rattle.words.specs.Words.{letters}
 use Rattle.book.specs.Steps.{Step}
-use Rattle.book.specs.Cases.{raw, put, get, order, claim, fetch, finish, look, sized}
+use Rattle.book.specs.Sizes.{sized}
+use Rattle.book.specs.Messages.{raw, put, get, order, claim, fetch, finish, look}
 use Rattle.schedule.specs.Bytes.{isHeader, bytesOf, headerOf, scheduleOf}
 use Rattle.schedule.specs.Cases.{headerless, numberBytes}
 use Rattle.player.specs.Printed.{text}

@@ -1,5 +1,5 @@
--- What a walk needs to call the core of a call: its contract, what its promise says, and that head, table and numbers by
--- value with the lent entries are all it asks. The entries are given up to it, and come back as their last numbers.
+-- What a walk needs to call the core of a call: its contract, what its promise says, and that head, table and numbers
+-- by value with the lent entries are all it asks. The entries are given up to it, and come back as their last numbers.
 use mathlib.Core.Path.{_≡_, refl}
 use Prim.Native.Nat.{ℕ, _<_, _^_}
 use mathlib.Core.List.{List, [], _∷_}

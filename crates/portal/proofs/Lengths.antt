@@ -8,7 +8,11 @@ use lib.ListN.{length, length-set, length-replicate}
 use Rattle.words.specs.declared.Refusal.the-variants.{Unfit as Refusal·unfit}
 use Rattle.book.specs.Choice.{_<ᵇ_}
 use Rattle.book.specs.Sizes.{Size, fits, isOrder, blockOf}
-use Rattle.book.specs.Steps.{Step, DeskStep, look, claim, fetch, finish, Deed, put, get, order, desk, unlisted, decode, carried}
+use Rattle.book.specs.declared.DeskStep.{DeskStep}
+use Rattle.book.specs.declared.DeskStep.the-variants.{Look as look, Claim as claim, Fetch as fetch, Finish as finish}
+use Rattle.book.specs.declared.Deed.{Deed}
+use Rattle.book.specs.declared.Deed.the-variants.{Put as put, Get as get, Order as order, Desk as desk, Unlisted as unlisted}
+use Rattle.book.specs.Steps.{Step, decode, carried}
 use Rattle.book.specs.Verdicts.{admitted, lookable}
 use Rattle.book.proofs.Choice.{by-test, by-verdict, cases, not→false, and-first, and-second}
 use Rattle.line.specs.Line.{Line, Outcome, Spot, sizeOf, nowhere, refuse, unused, deskAt, recordOf, mayPut, withLabel, putStep, putMany, orderStep}

@@ -1,7 +1,11 @@
+pub mod Apart
 pub mod Calling
+pub mod Calls
 pub mod Cases
+pub mod Changing
 pub mod Core
 pub mod Demands
+pub mod FirstBroken
 pub mod Lending
 pub mod Lengths
 pub mod Loading

@@ -1,6 +1,7 @@
--- From the engine to the portal. The engine takes the table that was loaded, the portal lends the records themselves. Up to
--- 64 records are the engine's line as they are, and the line that it leaves is stored over them; more fit no line, so both
--- are UNFIT and leave what was lent. So what the engine promises of its outcome the portal promises of its own.
+-- From the engine to the portal. The engine takes the table that was loaded, the portal lends the records themselves.
+-- Up to 64 records are the engine's line as they are, and the line that it leaves is stored over them; more fit no
+-- line, so both are UNFIT and leave what was lent. So what the engine promises of its outcome the portal promises of
+-- its own.
 use mathlib.Core.Path.{_≡_, refl, sym, ap, _∙_}
 use mathlib.Core.List.{List, [], _∷_, _++_}
 use Prim.Native.Nat.{ℕ, suc, _≤_, _<_}
@@ -24,6 +25,7 @@ use Rattle.line.specs.Line.{Line, Outcome, refuse, unused}
 use Rattle.line.specs.Check.{check}
 use Rattle.line.specs.Calls as L
 use Rattle.line.specs.Calls.{opens, step, orders}
+use Rattle.line.specs.Numbers.{openingSaid, checkSaid, surveySaid}
 use Rattle.line.specs.Survey.{none, survey}
 use Rattle.table.specs.Laid.{laid, loaded, stored}
 use Rattle.table.proofs.Laws.{stored-loaded, stored-take}
@@ -37,7 +39,7 @@ use Rattle.engine.specs.Opens as E′
 use Rattle.rules.proofs.Lent.{lent-length}
 use Rattle.rules.proofs.Entries.{lent-checked}
 use Rattle.engine.proofs.Lent.{put-lent}
-use Rattle.portal.specs.Promises.{lent, Opens, Steps, Orders, Checks, Surveys}
+use Rattle.portal.specs.Promises.{lent, told, Opens, Steps, Orders, Checks, Surveys}
 use Rattle.portal.proofs.Lengths.{step-long, orders-long, opens-long, check-many, survey-many, step-many, orders-many, opens-many}
 use Rattle.portal.proofs.Unread.{lent-surveyed}
 
@@ -115,21 +117,21 @@ module _ (h : Head) (ys : List Block) (es : List ℕ) where
 
   pub stepped : (fs : List ℕ) (s : Step) (r : OutcomeByValue) → E.Steps h (loaded ys) (length ys) es s r fs
       → Steps (lent h ys es) s (r .answer) (lent (r .head) (stored ys (r .table)) fs)
-  stepped fs s r = went (λ l. step l s) (λ l. step-long l s) (λ l m. step-many l m s) r fs
+  stepped fs s r e = ap told (went (λ l. step l s) (λ l. step-long l s) (λ l m. step-many l m s) r fs e)
 
   pub ordered : (fs : List ℕ) (first last : ℕ) (r : OutcomeByValue) → E.Orders h (loaded ys) (length ys) es first last r fs
       → Orders (lent h ys es) first last (r .answer) (lent (r .head) (stored ys (r .table)) fs)
-  ordered fs first last r = went (λ l. orders l first last) (λ l. orders-long l first last) (λ l m. orders-many l m first last) r fs
+  ordered fs first last r e = ap told (went (λ l. orders l first last) (λ l. orders-long l first last) (λ l m. orders-many l m first last) r fs e)
 
   pub begun : (fs : List ℕ) (z : Size) (r : Opened) → E′.Opens h (loaded ys) (length ys) es z r fs
       → Opens (lent h ys es) z (r .answer) (lent (r .head) (stored ys (r .table)) fs)
   begun fs z r e =
       let o = outcome h ys es (λ l. (opens l z) .answer) NoLine (λ l m. ap (λ (o : L.Opened). o .answer) (opens-many l m z))
       (λ l. (opens l z) .line) (λ l. opens-long l z) (λ l m. ap (λ (o : L.Opened). o .line) (opens-many l m z)) (E′.begun r fs) e in
-      λ j. record { line = o .0 j; answer = o .1 j }
+      λ j. record { line = o .0 j; said = openingSaid (o .1 j) }
 
   pub checked : (r : Checked) → C.Checks h (loaded ys) (length ys) (length es) r → Checks (lent h ys es) r
-  checked r e = lent-checked h (loaded ys) (length ys) es r e ∙ same-answer h ys es check Misfit check-many
+  checked r e = ap checkSaid (lent-checked h (loaded ys) (length ys) es r e ∙ same-answer h ys es check Misfit check-many)
 
   pub surveyed : (r : Findings) → E.Surveys h (loaded ys) (length ys) (length es) r → Surveys (lent h ys es) r
-  surveyed r e = lent-surveyed h (loaded ys) (length ys) es r e ∙ same-answer h ys es survey (none NoSurvey) survey-many
+  surveyed r e = ap surveySaid (lent-surveyed h (loaded ys) (length ys) es r e ∙ same-answer h ys es survey (none NoSurvey) survey-many)

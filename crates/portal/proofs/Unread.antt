@@ -5,8 +5,11 @@ use mathlib.Core.List.{List, _∷_}
 use Prim.Native.Nat.{ℕ, zero, suc}
 use lib.ListN.{length, replicate}
 use Rattle.words.specs.declared.Answer.{Answer}
-use Rattle.book.specs.Steps.{look, idle}
-use Rattle.book.specs.Verdicts.{Verdict, takes, refuses, judge, admitted, lookable}
+use Rattle.book.specs.declared.DeskStep.the-variants.{Look as look}
+use Rattle.book.specs.Steps.{idle}
+use Rattle.book.specs.declared.Verdict.{Verdict}
+use Rattle.book.specs.declared.Verdict.the-variants.{Takes as takes, Refuses as refuses}
+use Rattle.book.specs.Verdicts.{judge, admitted, lookable}
 use Rattle.line.specs.declared.Block.{Block}
 use Rattle.line.specs.declared.Checked.{Checked}
 use Rattle.line.specs.declared.Checked.the-variants.{Sound, Unfit, Broken}

@@ -1,6 +1,7 @@
--- For each call a small line, the outcome that the promise allows there, and the wrong outcomes that it rules out: those of a line
--- that refuses everything, answers every step alike, changes no record, serves only the first step truly or invents a count, of
--- an opening that leaves an entry, and of a check that names the wrong place. proofs/Cases.antt has the proofs, by computing.
+-- For each call a small line, the outcome that the promise allows there, and the wrong outcomes that it rules out:
+-- those of a line that refuses everything, answers every step alike, changes no record, serves only the first step
+-- truly or invents a count, of an opening that leaves an entry, and of a check that names the wrong place.
+-- proofs/Cases.antt has the proofs, by computing.
 use mathlib.Core.List.{[], _∷_}
 use lib.ListN.{replicate}
 use Rattle.words.specs.declared.Answer.the-variants.{Put, Whole, Refused}

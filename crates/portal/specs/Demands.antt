@@ -1,41 +1,50 @@
--- The demands, of the calls themselves: whatever outcomes their promises allow. proofs/Demands.antt has a proof of each, under
--- the same name in small letters.
+-- The demands, of the calls themselves: whatever outcomes their promises allow. proofs/Demands.antt has a proof of
+-- each, under the same name in small letters.
 use mathlib.Core.Path.{_≡_}
-use mathlib.Core.Logic.{_↔_}
+use mathlib.Core.Logic.{_≢_, _↔_}
 use mathlib.Core.List.{List, [], _∷_, map}
 use Prim.Native.Nat.{ℕ, _+_, _≤_, _<_}
 use lib.Dec.{T}
+use lib.ListN.{length}
 use Rattle.words.specs.declared.Answer.{Answer}
-use Rattle.words.specs.declared.Answer.the-variants.{Seen}
+use Rattle.words.specs.declared.Answer.the-variants.{Seen, Refused}
+use Rattle.words.specs.declared.Refusal.{Refusal}
+use Rattle.words.specs.declared.Refusal.the-variants.{Lost, Empty}
 use Rattle.book.specs.Sizes.{Size}
-use Rattle.book.specs.Steps.{Step, look, desk, idle, decode}
+use Rattle.book.specs.declared.DeskStep.the-variants.{Look as look, Claim as claim}
+use Rattle.book.specs.declared.Deed.{Deed}
+use Rattle.book.specs.declared.Deed.the-variants.{Get as get, Order as order, Desk as desk}
+use Rattle.book.specs.Steps.{Step, idle, decode}
 use Rattle.book.specs.Book as B
 use Rattle.book.specs.Counts.{placed, got, took, won, lost, unfetched, waiting, handed, times, bound}
+use Rattle.line.specs.declared.Block.{Block}
+use Rattle.line.specs.declared.Head.{Head}
 use Rattle.line.specs.declared.Checked.{Checked}
-use Rattle.line.specs.declared.Checked.the-variants.{Sound as sound, Unfit as unfit, Broken as broken}
+use Rattle.line.specs.declared.Checked.the-variants.{Sound as sound, Unfit as unfit, Broken}
 use Rattle.line.specs.declared.Opening.{Opening}
 use Rattle.line.specs.declared.Opening.the-variants.{Open, Unfit}
 use Rattle.line.specs.declared.Surveyed.the-variants.{Survey as surveyed, Unfit as survey·unfit, Damaged as survey·damaged}
 use Rattle.line.specs.declared.Findings.{Findings}
-use Rattle.line.specs.Line.{Line, says, sizeOf, deskAt, deskStep, opened}
+use Rattle.line.specs.Line.{Line, says, sizeOf, deskAt, deskStep, getAt, withDesk, withHead, recordOf, opened}
 use Rattle.line.specs.Rules.{Sound}
 use Rattle.line.specs.Check.{fit}
 use Rattle.line.specs.Survey.{none}
-use Rattle.line.specs.Demands.{FirstBroken, Guarded, bitAt, ones, LeastBit}
-use Rattle.portal.specs.Promises.{Opens, Steps, Orders, Checks, Surveys}
+use Rattle.line.specs.Refusals.{When}
+use Rattle.line.specs.Demands.{FirstBroken, Guarded, Ordered, bitAt, ones, LeastBit}
+use Rattle.portal.specs.Promises.{lent, Opens, Steps, Orders, Checks, Surveys}
 
 abbrev Fit : Line → Type 0
 Fit l = T (fit (sizeOf (l .head)) (l .table) (l .entries))
 
 -- ---- demand 1: opening, and what is refused before anything is read
 
-pub record Opened (lent : Line) (z : Size) (r : Opening) (l : Line) : Type 0 where
+pub record OpeningSays (lent : Line) (z : Size) (r : Opening) (l : Line) : Type 0 where
   pub answer : (r ≡ Open) ↔ T (fit z (lent .table) (lent .entries))
   pub fresh : r ≡ Open → l ≡ opened z
   pub left : r ≡ Unfit → l ≡ lent
 
 unfoldable pub OpeningTold : Type 0
-OpeningTold = (lent l : Line) (z : Size) (r : Opening) → Opens lent z r l → Opened lent z r l
+OpeningTold = (lent l : Line) (z : Size) (r : Opening) → Opens lent z r l → OpeningSays lent z r l
 
 unfoldable pub StepGuarded : Type 0
 StepGuarded = (l m : Line) (s : Step) (r : Answer) → Steps l s r m → Guarded l (says m r)
@@ -43,17 +52,58 @@ StepGuarded = (l m : Line) (s : Step) (r : Answer) → Steps l s r m → Guarded
 unfoldable pub OrderGuarded : Type 0
 OrderGuarded = (l m : Line) (first last : ℕ) (r : Answer) → Orders l first last r m → Guarded l (says m r)
 
+-- ---- demand 1: each refusal exactly when the paper says, and what it leaves
+
+abbrev NoOrder : Deed → Type 0
+NoOrder e = (a b : ℕ) → e ≢ order a b
+
+-- of a step that is no order, on any line: each refusal leaves table and entries, and the line but for LOST and EMPTY
+pub record RefusalLeaves (l m : Line) (r : Answer) : Type 0 where
+  pub left : (w : Refusal) (n : ℕ) → r ≡ Refused w n → w ≢ Lost → w ≢ Empty → m ≡ l
+  pub head-alone : (w : Refusal) (n : ℕ) → r ≡ Refused w n → (m .table ≡ l .table) × (m .entries ≡ l .entries)
+
+unfoldable pub StepRefusedLeaves : Type 0
+StepRefusedLeaves = (l m : Line) (s : Step) (r : Answer) → Steps l s r m → NoOrder (decode s) → RefusalLeaves l m r
+
+-- on a sound line: when each is given; LOST leaves the desk idle; EMPTY keeps the moves
+pub record RefusalSays (l m : Line) (s : Step) (r : Answer) : Type 0 where
+  pub when : (w : Refusal) (n : ℕ) → (r ≡ Refused w n) ↔ (When l w (decode s) × (n ≡ 0))
+  pub lost : (n : ℕ) → r ≡ Refused Lost n → (d : ℕ) × (decode s ≡ desk d claim) × (m ≡ withHead l (withDesk (l .head) d idle))
+  pub empty : (n : ℕ) → decode s ≡ get → r ≡ Refused Empty n
+      → let p = l .head .p in
+      m ≡ withHead l (getAt (l .head) (record { turn = p; place = (recordOf (sizeOf (l .head)) (l .table) p) .written }))
+
+unfoldable pub StepRefusedWhen : Type 0
+StepRefusedWhen = (l m : Line) (s : Step) (r : Answer) → Steps l s r m → Fit l → Sound l → NoOrder (decode s) → RefusalSays l m s r
+
+unfoldable pub OrderRefusedWhen : Type 0
+OrderRefusedWhen = (l m : Line) (first last : ℕ) (r : Answer) → Orders l first last r m → Fit l → Sound l → Ordered l first last (says m r)
+
 -- ---- demand 1: the check
 
-pub record Told (l : Line) (r : Checked) : Type 0 where
+pub record CheckSays (l : Line) (r : Checked) : Type 0 where
   pub unfit : (r ≡ unfit) ↔ (Fit l → ⊥)
   pub sound : (r ≡ sound) ↔ (Fit l × Sound l)
-  pub broken : (place rule : ℕ) → r ≡ broken place rule → Fit l × FirstBroken l place rule
+  pub broken : (place rule : ℕ) → r ≡ Broken place rule → Fit l × FirstBroken l place rule
+  -- and the other way: the first rule that is broken is named, with its place
+  pub first : (place rule : ℕ) → Fit l → FirstBroken l place rule → r ≡ Broken place rule
 
 unfoldable pub CheckTold : Type 0
-CheckTold = (l : Line) (r : Checked) → Checks l r → Told l r
+CheckTold = (l : Line) (r : Checked) → Checks l r → CheckSays l r
 
--- ---- demand 2: a line is opened in whatever was lent, and then steps and orders are called, each lent what the one before left
+-- of the entries it matters only how many there are, to the check and to the survey
+unfoldable pub CheckUnread : Type 0
+CheckUnread =
+    (h : Head) (t : List Block) (es fs : List ℕ) (r s : Checked) → length es ≡ length fs
+    → Checks (lent h t es) r → Checks (lent h t fs) s → r ≡ s
+
+unfoldable pub SurveyUnread : Type 0
+SurveyUnread =
+    (h : Head) (t : List Block) (es fs : List ℕ) (v w : Findings) → length es ≡ length fs
+    → Surveys (lent h t es) v → Surveys (lent h t fs) w → v ≡ w
+
+-- ---- demand 2: a line is opened in whatever was lent, and then steps and orders are called, each lent what the one
+-- before left
 
 pub data Call : Type 0 where
   stepped : Step → Call
@@ -113,14 +163,14 @@ pub record Names (l : Line) (v : Findings) : Type 0 where
   pub count : v .count ≡ ones 64 (v .mask)
   pub lowest : LeastBit (v .mask) (v .lowest)
 
-pub record Surveyed (l : Line) (v : Findings) : Type 0 where
+pub record SurveySays (l : Line) (v : Findings) : Type 0 where
   pub unfit : (Fit l → ⊥) → v ≡ none survey·unfit
   pub damaged : Fit l → (Sound l → ⊥) → v ≡ none survey·damaged
   pub answer : Fit l → Sound l → v .answer ≡ surveyed
   pub names : Fit l → Sound l → Names l v
 
 unfoldable pub SurveyTold : Type 0
-SurveyTold = (l : Line) (v : Findings) → Surveys l v → Surveyed l v
+SurveyTold = (l : Line) (v : Findings) → Surveys l v → SurveySays l v
 
 -- ---- demand 3
 

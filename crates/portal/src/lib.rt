@@ -18,7 +18,7 @@
 //
 // `words::number`, `words::value` and `words::word` tell an answer's number, value and word. Each
 // call's promise is one equation with the line's own definitions: specs/Promises.antt.
-ghost use Rattle.portal.specs.Promises.{lent, Opens, Steps, Orders, Checks, Surveys};
+ghost use Rattle.portal.specs.Promises.{before, after, theSize, theStep, Opens, Steps, Orders, Checks, Surveys};
 use line::Block;
 use line::Checked;
 use line::Findings;
@@ -35,7 +35,7 @@ pub fn open(
     ne: u16,
     t: u16,
 ) -> Opening
-    ensures { λ r. ⌜ Opens (lent (now (head .entry)) (now (table .entry)) (now (entries .entry))) (record { nb = nb; ne = ne; t = t }) r (lent (now (head .exit)) (now (table .exit)) (now (entries .exit))) ⌝ }
+    ensures { λ r. ⌜ Opens (before head table entries) (theSize nb ne t) r (after head table entries) ⌝ }
 {
     let n = table.len();
     let records = table::load(table);
@@ -56,7 +56,7 @@ pub fn step(
     a: u32,
     b: u32,
 ) -> Answer
-    ensures { λ r. ⌜ Steps (lent (now (head .entry)) (now (table .entry)) (now (entries .entry))) (record { code = code; a = a; b = b }) r (lent (now (head .exit)) (now (table .exit)) (now (entries .exit))) ⌝ }
+    ensures { λ r. ⌜ Steps (before head table entries) (theStep code a b) r (after head table entries) ⌝ }
 {
     let n = table.len();
     let records = table::load(table);
@@ -76,7 +76,7 @@ pub fn order(
     first: u32,
     last: u32,
 ) -> Answer
-    ensures { λ r. ⌜ Orders (lent (now (head .entry)) (now (table .entry)) (now (entries .entry))) first last r (lent (now (head .exit)) (now (table .exit)) (now (entries .exit))) ⌝ }
+    ensures { λ r. ⌜ Orders (before head table entries) first last r (after head table entries) ⌝ }
 {
     let n = table.len();
     let records = table::load(table);
@@ -90,7 +90,7 @@ pub fn order(
 
 // Is the line sound? Nothing is changed.
 pub fn check(head: &Head, table: &[Block], entries: &[u32]) -> Checked
-    ensures { λ r. ⌜ Checks (lent (now (head .entry)) (now (table .entry)) (now (entries .entry))) r ⌝ }
+    ensures { λ r. ⌜ Checks (before head table entries) r ⌝ }
 {
     let n = table.len();
     let m = entries.len();
@@ -101,7 +101,7 @@ pub fn check(head: &Head, table: &[Block], entries: &[u32]) -> Checked
 
 // Where could an idle desk take from? Nothing is changed.
 pub fn survey(head: &Head, table: &[Block], entries: &[u32]) -> Findings
-    ensures { λ r. ⌜ Surveys (lent (now (head .entry)) (now (table .entry)) (now (entries .entry))) r ⌝ }
+    ensures { λ r. ⌜ Surveys (before head table entries) r ⌝ }
 {
     let n = table.len();
     let m = entries.len();

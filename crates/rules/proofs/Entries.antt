@@ -13,13 +13,13 @@ use Rattle.line.specs.declared.Checked.the-variants.{Unfit, Broken}
 use Rattle.line.specs.declared.Head.{Head}
 use Rattle.line.specs.Line.{sizeOf}
 use Rattle.line.specs.Rules.{Rule, rule1, rule2, rule3, rule4, rule5, rule6, rule7, ruleNumber, RuleAt, inOrder}
-use Rattle.line.specs.Check.{fit, isCurrent, deskHolds, isZeros, holds1, holds2, holds3, holds4, holds5, holds6, holds7, holds, firstBroken, check}
+use Rattle.line.specs.Check.{fit, holds, firstBroken, check}
 use Rattle.rules.specs.Lent.{lentTable, lineOf}
 use Rattle.rules.specs.Promises.{Checks}
 
 module _ (h : Head) (t : List Block) (n : ℕ) (es es′ : List ℕ) where
   holds-entries : (i : ℕ) (r : Rule) → holds (lineOf h t n es) i r ≡ holds (lineOf h t n es′) i r
-  unfolding holds holds1 holds2 holds3 holds4 holds5 holds6 holds7 isCurrent deskHolds isZeros
+  unfolding holds
   holds-entries i rule1 = refl
   holds-entries i rule2 = refl
   holds-entries i rule3 = refl

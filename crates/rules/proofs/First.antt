@@ -12,10 +12,11 @@ use Rattle.line.specs.declared.Checked.the-variants.{Sound, Unfit, Broken}
 use Rattle.line.specs.declared.Head.{Head}
 use Rattle.line.specs.Line.{Line, sizeOf}
 use Rattle.line.specs.Rules.{Rule, rule1, rule2, rule3, rule4, rule5, rule6, rule7, ruleNumber, RuleAt, ask, ofBlocks, inOrder}
-use Rattle.line.specs.Check.{fit, holds1, holds2, holds3, holds4, holds5, holds6, holds7, holds, firstBroken, check}
+use Rattle.line.specs.Check.{fit, holds, firstBroken, check}
 use Rattle.rules.specs.Lent.{lentTable, lineOf}
-use Rattle.rules.specs.Checking.{Ring, fitting}
-use Rattle.rules.proofs.Fits.{fit-by, sized}
+use Rattle.ring.specs.Ring.{Ring}
+use Rattle.line.specs.Tests.{fitting}
+use Rattle.rules.proofs.Lengths.{fit-by, sized}
 use Rattle.rules.proofs.Entries.{first-entries}
 use Rattle.rules.proofs.Plain.{bare}
 
@@ -62,20 +63,20 @@ module _ (l : Line) where
   stop i r later e = rw e
 
   module _ (nb : ℕ) where
-    pub head-1 : holds1 l ≡ false → firstBroken l (inOrder nb) ≡ Broken 64 1
-    unfolding inOrder holds
+    pub head-1 : holds l 64 rule1 ≡ false → firstBroken l (inOrder nb) ≡ Broken 64 1
+    unfolding inOrder
     head-1 a = stop 64 rule1 _ a
 
-    pub head-2 : holds1 l ≡ true → holds2 l ≡ false → firstBroken l (inOrder nb) ≡ Broken 64 2
-    unfolding inOrder holds
+    pub head-2 : holds l 64 rule1 ≡ true → holds l 64 rule2 ≡ false → firstBroken l (inOrder nb) ≡ Broken 64 2
+    unfolding inOrder
     head-2 a b = past 64 rule1 _ a ∙ stop 64 rule2 _ b
 
-    pub head-3 : holds1 l ≡ true → holds2 l ≡ true → holds3 l ≡ false → firstBroken l (inOrder nb) ≡ Broken 64 3
-    unfolding inOrder holds
+    pub head-3 : holds l 64 rule1 ≡ true → holds l 64 rule2 ≡ true → holds l 64 rule3 ≡ false → firstBroken l (inOrder nb) ≡ Broken 64 3
+    unfolding inOrder
     head-3 a b c = past 64 rule1 _ a ∙ past 64 rule2 _ b ∙ stop 64 rule3 _ c
 
-    pub head-past : holds1 l ≡ true → holds2 l ≡ true → holds3 l ≡ true → firstBroken l (inOrder nb) ≡ firstBroken l (ofBlocks 0 nb)
-    unfolding inOrder holds
+    pub head-past : holds l 64 rule1 ≡ true → holds l 64 rule2 ≡ true → holds l 64 rule3 ≡ true → firstBroken l (inOrder nb) ≡ firstBroken l (ofBlocks 0 nb)
+    unfolding inOrder
     head-past a b c = past 64 rule1 _ a ∙ past 64 rule2 _ b ∙ past 64 rule3 _ c
 
   module _ (n i : ℕ) (h : i < n) where
@@ -83,24 +84,19 @@ module _ (l : Line) where
     unfolding ofBlocks
     more = let e : n - i ≡ suc (n - (i + 1)) = omega arith in rw (e, add-one)
 
-    pub block-4 : holds4 l i ≡ false → firstBroken l (ofBlocks i (n - i)) ≡ Broken i 4
-    unfolding holds
+    pub block-4 : holds l i rule4 ≡ false → firstBroken l (ofBlocks i (n - i)) ≡ Broken i 4
     block-4 d = ap (firstBroken l) more ∙ stop i rule4 _ d
 
-    pub block-5 : holds4 l i ≡ true → holds5 l i ≡ false → firstBroken l (ofBlocks i (n - i)) ≡ Broken i 5
-    unfolding holds
+    pub block-5 : holds l i rule4 ≡ true → holds l i rule5 ≡ false → firstBroken l (ofBlocks i (n - i)) ≡ Broken i 5
     block-5 d e = ap (firstBroken l) more ∙ past i rule4 _ d ∙ stop i rule5 _ e
 
-    pub block-6 : holds4 l i ≡ true → holds5 l i ≡ true → holds6 l i ≡ false → firstBroken l (ofBlocks i (n - i)) ≡ Broken i 6
-    unfolding holds
+    pub block-6 : holds l i rule4 ≡ true → holds l i rule5 ≡ true → holds l i rule6 ≡ false → firstBroken l (ofBlocks i (n - i)) ≡ Broken i 6
     block-6 d e f = ap (firstBroken l) more ∙ past i rule4 _ d ∙ past i rule5 _ e ∙ stop i rule6 _ f
 
-    pub block-7 : holds4 l i ≡ true → holds5 l i ≡ true → holds6 l i ≡ true → holds7 l i ≡ false → firstBroken l (ofBlocks i (n - i)) ≡ Broken i 7
-    unfolding holds
+    pub block-7 : holds l i rule4 ≡ true → holds l i rule5 ≡ true → holds l i rule6 ≡ true → holds l i rule7 ≡ false → firstBroken l (ofBlocks i (n - i)) ≡ Broken i 7
     block-7 d e f g = ap (firstBroken l) more ∙ past i rule4 _ d ∙ past i rule5 _ e ∙ past i rule6 _ f ∙ stop i rule7 _ g
 
-    pub block-past : holds4 l i ≡ true → holds5 l i ≡ true → holds6 l i ≡ true → holds7 l i ≡ true → firstBroken l (ofBlocks i (n - i)) ≡ firstBroken l (ofBlocks (i + 1) (n - (i + 1)))
-    unfolding holds
+    pub block-past : holds l i rule4 ≡ true → holds l i rule5 ≡ true → holds l i rule6 ≡ true → holds l i rule7 ≡ true → firstBroken l (ofBlocks i (n - i)) ≡ firstBroken l (ofBlocks (i + 1) (n - (i + 1)))
     block-past d e f g = ap (firstBroken l) more ∙ past i rule4 _ d ∙ past i rule5 _ e ∙ past i rule6 _ f ∙ past i rule7 _ g
 
   pub no-more : (n i : ℕ) → n ≤ i → firstBroken l (ofBlocks i (n - i)) ≡ Sound

@@ -1,10 +1,9 @@
 pub mod Lent
-pub mod Fits
+pub mod Lengths
 pub mod Entries
 pub mod First
 pub mod Plain
 pub mod Records
-pub mod Ring
 pub mod Stages
 pub mod Walks
 pub mod Unique

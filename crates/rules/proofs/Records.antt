@@ -8,8 +8,8 @@ use lib.Arith.{digits-div}
 use lib.Dec.{leb, eqb, eqb→eq}
 use borrow.Author.Tests.{lt-ltb, le-leb}
 use Rattle.book.proofs.Choice.{same-test, and-second, eq→eqb}
+use Rattle.line.specs.Tests.{obeys4, obeys5}
 use Rattle.line.specs.declared.Block.{Block}
-use Rattle.rules.specs.Checking.{obeys4, obeys5}
 
 -- a bound of a product
 pub product : (a b m n : ℕ) → a ≤ m → b ≤ n → a * b ≤ m * n

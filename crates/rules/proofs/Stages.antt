@@ -10,14 +10,14 @@ use borrow.Author.Tests.{ne-eqb, lt-leb}
 use mir.Val.{boolByte}
 use Rattle.book.specs.Choice.{if_then_else_}
 use Rattle.book.specs.Total.{any}
-use Rattle.book.specs.Steps.{Desk, idle, looked, claimed, fetched}
+use Rattle.book.specs.Steps.{Hold, Desk, idle, looked, holding, claimedAt, withFetched}
 use Rattle.book.proofs.Choice.{by-test, and-false}
 use Rattle.line.specs.declared.Block.{Block}
 use Rattle.line.specs.declared.Desk.{Desk as LentDesk}
-use Rattle.line.specs.Line.{Spot, deskOf}
+use Rattle.line.specs.Line.{Spot, deskOf, spotOf}
+use Rattle.line.specs.Tests.{deskObeys, clashes, holdsAt, isIdle, isRecent, obeys3}
+use Rattle.rules.specs.Holders.{heldTurn, isHolding, isTurn, noTurn}
 use Rattle.line.specs.Rules.{heldIn}
-use Rattle.line.specs.Check.{isIdle, holdsAt, clashes}
-use Rattle.rules.specs.Checking.{spotOf, isHolding, isRecent, noTurn, heldTurn, isTurn, obeys3}
 
 abbrev desk : ℕ → Spot → LentDesk
 desk n s = record { stage = n; place = s .place; turn = s .turn }
@@ -52,11 +52,12 @@ module _ (P : LentDesk → Type 0) (a : (s : Spot) → P (desk 0 s)) (b : (s : S
   by-stage : (x : LentDesk) → P x
   by-stage x = by-number (spotOf x) (x .stage)
 
--- what holds of the four kinds of desk holds of what is read off the numbers
-pub of-desk : (P : Desk Spot → Type 0) (x : LentDesk) → P idle → P (looked (spotOf x)) → P (claimed (spotOf x)) → P (fetched (spotOf x)) → P (deskOf x)
+-- what holds of each kind of desk holds of what is read off the numbers
+pub of-desk : (P : Desk Spot → Type 0) (x : LentDesk) → P idle → P (looked (spotOf x)) → ((h : Hold Spot) → h .at ≡ spotOf x → P (holding h)) → P (deskOf x)
 unfolding deskOf
-of-desk P x a b c d =
-    by-test P (eqb (x .stage) 1) (λ s. b) (λ s. by-test P (eqb (x .stage) 2) (λ s. c) (λ s. by-test P (eqb (x .stage) 3) (λ s. d) (λ s. a)))
+of-desk P x a b c =
+    let h = claimedAt (spotOf x) in
+    by-test P (eqb (x .stage) 1) (λ s. b) (λ s. by-test P (eqb (x .stage) 2) (λ s. c h refl) (λ s. by-test P (eqb (x .stage) 3) (λ s. c (withFetched h) refl) (λ s. a)))
 
 pub idle-of : (x : LentDesk) → x .stage ≡ 0 → deskOf x ≡ idle
 unfolding deskOf
@@ -67,7 +68,7 @@ pub stray : (o : Desk Spot → Bool) (x : LentDesk) → x .stage ≢ 0 → (leb 
 unfolding deskOf
 stray o =
     by-stage (λ x. x .stage ≢ 0 → (leb (x .stage) 3 && o (deskOf x) && isIdle (deskOf x)) ≡ false) (λ s k. absurd (k refl))
-    (λ s k. and-false (o (looked s))) (λ s k. and-false (o (claimed s))) (λ s k. and-false (o (fetched s))) (λ s n w k. rw (w .above))
+    (λ s k. and-false (o (looked s))) (λ s k. and-false (o (holding (claimedAt s)))) (λ s k. and-false (o (holding (withFetched (claimedAt s))))) (λ s n w k. rw (w .above))
 
 -- ---- the turn in which a desk has claimed or fetched
 
@@ -132,11 +133,11 @@ module _ (nb ne p : ℕ) (c : Block) where
       || (eqb (x .stage) 1 && (leb (x .turn) p && ltb (x .place) ne && (not now || ltb (x .place) (c .written))))
       || (holds && (now && ltb (x .place) (c .claimed)))
 
-  rule-of : (x : LentDesk) → ruled x (isRecent nb p (x .turn)) (isHolding x) ≡ (leb (x .stage) 3 && obeys3 nb ne p c (deskOf x))
+  rule-of : (x : LentDesk) → ruled x (isRecent nb p (x .turn)) (isHolding x) ≡ (leb (x .stage) 3 && deskObeys nb ne p c (deskOf x))
   unfolding deskOf
   rule-of =
-      by-stage (λ x. ruled x (isRecent nb p (x .turn)) (isHolding x) ≡ (leb (x .stage) 3 && obeys3 nb ne p c (deskOf x))) (λ s. refl)
-      (λ s. sym (or-false (obeys3 nb ne p c (looked s)))) (λ s. refl) (λ s. refl) (λ s n w. simp (w .zeroth, w .first, w .second, w .third, w .above))
+      by-stage (λ x. ruled x (isRecent nb p (x .turn)) (isHolding x) ≡ (leb (x .stage) 3 && deskObeys nb ne p c (deskOf x))) (λ s. refl)
+      (λ s. sym (or-false (deskObeys nb ne p c (looked s)))) (λ s. refl) (λ s. refl) (λ s n w. simp (w .zeroth, w .first, w .second, w .third, w .above))
 
-  pub desk-rule : (x : LentDesk) (now holds : Bool) → now ≡ isRecent nb p (x .turn) → holds ≡ isHolding x → ruled x now holds ≡ (leb (x .stage) 3 && obeys3 nb ne p c (deskOf x))
+  pub desk-rule : (x : LentDesk) (now holds : Bool) → now ≡ isRecent nb p (x .turn) → holds ≡ isHolding x → ruled x now holds ≡ (leb (x .stage) 3 && deskObeys nb ne p c (deskOf x))
   desk-rule x now holds d e = ap₂ (ruled x) d e ∙ rule-of x

@@ -10,15 +10,15 @@ use lib.ListN.{length, length-map, getD, set, take, drop, drop-of-length-le}
 use lib.Seq.{take-all, drop-cons, drop-nil}
 use lib.Dec.{ltb, eqb, ltb→lt}
 use Rattle.book.specs.Total.{total, any, all}
-use Rattle.book.specs.Steps.{Desk, idle, looked, claimed, fetched}
+use Rattle.book.specs.Steps.{Hold, Desk, idle, looked, holding, claimedAt, withFetched}
 use Rattle.book.proofs.Choice.{cases, T→true, not→false, and-second, and-false}
 use Rattle.book.proofs.Total.{total-le}
 use Rattle.line.specs.declared.Desk.{Desk as LentDesk}
 use Rattle.line.specs.Line.{Spot, numbersOf, deskOf}
 use Rattle.line.specs.Rules.{heldIn}
-use Rattle.line.specs.Check.{holdsAt, clashes, noClash}
 use Rattle.line.proofs.Survey.{bit-le}
-use Rattle.rules.specs.Checking.{isRecent, noTurn, heldTurn, isTurn}
+use Rattle.line.specs.Tests.{obeys1, clashes, holdsAt, isRecent, noClash}
+use Rattle.rules.specs.Holders.{heldTurn, isTurn, noTurn}
 use Rattle.rules.proofs.Stages.{held, or-false}
 
 -- as many desks as a head's array has
@@ -33,8 +33,7 @@ at ds d = getD ds d (numbersOf idle)
 pub held-le : (t : ℕ) (x : Desk Spot) → heldIn t x ≤ 1
 held-le t idle = omega arith
 held-le t (looked s) = omega arith
-held-le t (claimed s) = bit-le (eqb (s .turn) t)
-held-le t (fetched s) = bit-le (eqb (s .turn) t)
+held-le t (holding h) = bit-le (eqb (h .at .turn) t)
 
 pub held-few : (t : ℕ) (ds : List LentDesk) (r : ℕ) → length ds ≡ 16 → r ≡ total (λ x. heldIn t (deskOf x)) ds → r ≤ 16
 held-few t ds r h e = omega (arith, total-le (λ x. heldIn t (deskOf x)) (λ x. held-le t (deskOf x)) ds)
@@ -68,7 +67,7 @@ module _ {A B : Type 0} (f : A → B) (x₀ : A) where
   map-all n xs ys h k = ap₂ (λ (l : List A) (r : List B). map f l ++ r) (take-all n xs (omega arith)) (drop-of-length-le ys {i = n} (omega arith)) ∙ append-nil (map f xs)
 
 -- a line's turns are below the number that stands for none
-pub turn-few : (nb p k i t : ℕ) (r : Bool) → r ≡ (isRecent nb p k && ltb p (65536 * nb)) → r ≡ true → nb ≤ 64 → t ≡ p - (p - i) % nb → t < noTurn
+pub turn-few : (nb p k i t : ℕ) (r : Bool) → r ≡ obeys1 nb p k → r ≡ true → nb ≤ 64 → t ≡ p - (p - i) % nb → t < noTurn
 turn-few nb p k i t r e kept few stands = let below = ltb→lt p (65536 * nb) (and-second (isRecent nb p k) (ltb p (65536 * nb)) (rw (sym e, kept) tt)) in omega arith
 
 pub held-by-turn : (t : ℕ) (ds : List LentDesk) → t < noTurn → total (isTurn t) (map heldTurn ds) ≡ total (λ x. heldIn t (deskOf x)) ds
@@ -82,8 +81,7 @@ first-of : (x : Desk Spot) (y : LentDesk) (ys : List LentDesk) → clashes x (y 
 unfolding any
 first-of idle y ys = refl
 first-of (looked s) y ys = refl
-first-of (claimed s) y ys = ap (λ (b : Bool). b || any (λ z. holdsAt s (deskOf z)) ys) (or-false (holdsAt s (deskOf y)))
-first-of (fetched s) y ys = ap (λ (b : Bool). b || any (λ z. holdsAt s (deskOf z)) ys) (or-false (holdsAt s (deskOf y)))
+first-of (holding h) y ys = ap (λ (b : Bool). b || any (λ z. holdsAt (h .at) (deskOf z)) ys) (or-false (holdsAt (h .at) (deskOf y)))
 
 module _ (ds : List LentDesk) where
   -- desk j beside one that holds x
@@ -101,8 +99,7 @@ module _ (ds : List LentDesk) where
   unfolding any
   pair-end idle j h = refl
   pair-end (looked s) j h = refl
-  pair-end (claimed s) j h = rw drop-of-length-le
-  pair-end (fetched s) j h = rw drop-of-length-le
+  pair-end (holding x) j h = rw drop-of-length-le
 
   -- desk i beside the later ones
   module _ (i : ℕ) (h : i < length ds) where

@@ -1,3 +1,3 @@
 pub mod Lent
 pub mod Promises
-pub mod Checking
+pub mod Holders

@@ -6,7 +6,8 @@ use mathlib.Core.List.{List, [], _∷_, _++_, map}
 use Prim.Native.Nat.{ℕ}
 use lib.ListN.{length, take, replicate}
 use Rattle.book.specs.Steps.{Step}
-use Rattle.book.specs.Cases.{raw, put, get, order, claim, fetch, finish, look, most, sized}
+use Rattle.book.specs.Sizes.{sized}
+use Rattle.book.specs.Messages.{raw, put, get, order, claim, fetch, finish, look, most}
 use Rattle.schedule.specs.Bytes.{isLong, isHeader, sizeIn, wholeSteps, stepsOf, isCut, bytesOf, headerOf, scheduleOf}
 
 -- ---- the header

@@ -1,5 +1,5 @@
--- Laws of records laid over others: one turn of a loop that lays them, its end, and what comes of a table that is loaded
--- and stored again.
+-- Laws of records laid over others: one turn of a loop that lays them, its end, and what comes of a table that is
+-- loaded and stored again.
 use mathlib.Core.Path.{_≡_, refl, sym, _∙_, ap}
 use mathlib.Core.Logic.{_⊎_, inl, inr}
 use Prim.Native.Nat.{ℕ, suc, _+_, _<_, _≤_}

@@ -1,5 +1,5 @@
--- What a walk needs to call `record_at`: its contract, and the call itself. The slice is lent on as it is, so a copy of it
--- is kept.
+-- What a walk needs to call `record_at`: its contract, and the call itself. The slice is lent on as it is, so a copy of
+-- it is kept.
 use mathlib.Core.Path.{_≡_, refl}
 use Prim.Native.Nat.{ℕ, _<_, _^_}
 use mathlib.Core.List.{List, [], _∷_}

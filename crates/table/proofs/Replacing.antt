@@ -1,5 +1,5 @@
--- What a walk needs to call `replace`: its contract, and the call itself, of a `&mut` that is lent again for the time of
--- the call and comes back with the record in its place.
+-- What a walk needs to call `replace`: its contract, and the call itself, of a `&mut` that is lent again for the time
+-- of the call and comes back with the record in its place.
 use mathlib.Core.Path.{_≡_, refl, sym}
 use Prim.Native.Nat.{ℕ, _<_, _^_}
 use mathlib.Core.List.{List, [], _∷_}

@@ -1,6 +1,6 @@
-// The block table, as the portal lends it: a slice of records in block order. `count`, `record_at` and `replace` are the
-// thin functions that read or replace a record; `load` and `store` go over the table with them, between the lent slice and
-// the table of 64 records that the engine takes by value.
+// The block table, as the portal lends it: a slice of records in block order. `count`, `record_at` and `replace` are
+// the thin functions that read or replace a record; `load` and `store` go over the table with them, between the lent
+// slice and the table of 64 records that the engine takes by value.
 ghost use mathlib.Core.Path.{_≡_};
 ghost use mathlib.Core.Logic.{_⊎_};
 ghost use Prim.Native.Nat.{_<_, _+_, _≤_};

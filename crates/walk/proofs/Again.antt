@@ -1,5 +1,5 @@
--- A `&mut [T]` that is lent again for the time of a call, and comes back: as a `&mut [T]`, with other elements in it, or as
--- a `&[T]`, as it was. κ is its own lifetime, and κ′ that of the call.
+-- A `&mut [T]` that is lent again for the time of a call, and comes back: as a `&mut [T]`, with other elements in it,
+-- or as a `&[T]`, as it was. κ is its own lifetime, and κ′ that of the call.
 use mathlib.Core.Path.{_≡_, refl, sym, ap, subst}
 use Prim.Native.Nat.{ℕ}
 use mathlib.Core.List.{List, [], _∷_}

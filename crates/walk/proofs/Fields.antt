@@ -1,5 +1,5 @@
--- A struct's field that is an array of structs. What is known of such a field is said of its elements' tuples; here it is
--- said of the elements.
+-- A struct's field that is an array of structs. What is known of such a field is said of its elements' tuples; here it
+-- is said of the elements.
 use mathlib.Core.Path.{sym, _∙_}
 use Prim.Native.Nat.{ℕ}
 use mathlib.Core.List.{List, [], _∷_, map}

@@ -1,5 +1,5 @@
--- The locals of a function, several at once: they are allocated, the parameters among them are stored, read as operands of
--- a call, and freed. So a walk need not know how many they are, as where functions differ in their numbers only.
+-- The locals of a function, several at once: they are allocated, the parameters among them are stored, read as operands
+-- of a call, and freed. So a walk need not know how many they are, as where functions differ in their numbers only.
 use mathlib.Core.Path.{_≡_, refl, sym, subst}
 use Prim.Native.Nat.{ℕ, zero, suc}
 use mathlib.Core.List.{List, [], _∷_, _++_}
@@ -60,6 +60,13 @@ pub from-next : (e : Ty × ℕ) (E : List (Ty × ℕ)) (k : ℕ) (τs : List Ty)
 from-next e E k [] bs at = tt
 from-next e E k (τ ∷ τs) bs at = (at .0, from-next e E (suc k) τs (bs .1) (at .1))
 
+-- behind four others, as where a call's numbers stand behind its result and what it is lent
+pub from-four : (e₀ e₁ e₂ e₃ : Ty × ℕ) (E : List (Ty × ℕ)) (k : ℕ) (τs : List Ty) (bs : Addrs τs) → From E k τs bs
+    → From (e₀ ∷ e₁ ∷ e₂ ∷ e₃ ∷ E) (suc (suc (suc (suc k)))) τs bs
+from-four e₀ e₁ e₂ e₃ E k τs bs at =
+    from-next e₀ (e₁ ∷ e₂ ∷ e₃ ∷ E) (suc (suc (suc k))) τs bs (from-next e₁ (e₂ ∷ e₃ ∷ E) (suc (suc k)) τs bs
+    (from-next e₂ (e₃ ∷ E) (suc k) τs bs (from-next e₃ E k τs bs at)))
+
 pub from-first : (τs : List Ty) (bs : Addrs τs) (E : List (Ty × ℕ)) → From (env τs bs ++ E) 0 τs bs
 from-first [] bs E = tt
 from-first (τ ∷ τs) bs E = (refl, from-next (τ, bs .0) (env τs (bs .1) ++ E) 0 τs (bs .1) (from-first τs (bs .1) E))
@@ -68,6 +75,12 @@ from-first (τ ∷ τs) bs E = (refl, from-next (τ, bs .0) (env τs (bs .1) ++ 
 abbrev pub past : List Ty → ℕ → ℕ
 past [] j = j
 past (τ ∷ τs) j = suc (past τs j)
+
+-- behind others, they are as far on as those are many
+pub from-past : (σs : List Ty) (cs : Addrs σs) (E : List (Ty × ℕ)) (k : ℕ) (τs : List Ty) (bs : Addrs τs) → From E k τs bs
+    → From (env σs cs ++ E) (past σs k) τs bs
+from-past [] cs E k τs bs at = at
+from-past (σ ∷ σs) cs E k τs bs at = from-next (σ, cs .0) (env σs (cs .1) ++ E) (past σs k) τs bs (from-past σs (cs .1) E k τs bs at)
 
 pub past-is : (τs : List Ty) (bs : Addrs τs) (E : List (Ty × ℕ)) (j : ℕ) → getD (env τs bs ++ E) (past τs j) none ≡ getD E j none
 past-is [] bs E j = refl
@@ -110,7 +123,7 @@ module _ {M : Type 1} {𝓤 : URA M} {H : Heap 𝓤} {A : Atoms 𝓤} {K : Type 
     pub opds-are : {Γ : List (Item 𝓤)} → K → {xs : List Operand} {vs us : List Val} → vs ≡ us → Opds K W Γ E xs vs → Opds K W Γ E xs us
     opds-are {Γ} t {xs} e os = subst (λ (ws : List Val). Opds K W Γ E xs ws) e os
 
-    opds-apart : {Γ Δ : List (Item 𝓤)} {xs : List Operand} {vs : List Val} → ent 𝓤 (⋆ 𝓤 H A Γ) (⋆ 𝓤 H A Δ) → ent 𝓤 (⋆ 𝓤 H A Δ) (⋆ 𝓤 H A Γ)
+    pub opds-apart : {Γ Δ : List (Item 𝓤)} {xs : List Operand} {vs : List Val} → ent 𝓤 (⋆ 𝓤 H A Γ) (⋆ 𝓤 H A Δ) → ent 𝓤 (⋆ 𝓤 H A Δ) (⋆ 𝓤 H A Γ)
         → Opds K W Δ E xs vs → Opds K W Γ E xs vs
     opds-apart {Γ} {Δ} apart back os = record { go = λ Kt h. via 𝓤 (⋆ 𝓤 H A Δ) apart (os .go Kt (via 𝓤 (⋆ 𝓤 H A Γ) back h)) }
 
@@ -125,13 +138,16 @@ module _ {M : Type 1} {𝓤 : URA M} {H : Heap 𝓤} {A : Atoms 𝓤} {K : Type 
         (and-then t (load t (from-at t (at .0) (stop t)) (look t 1 refl))
         (reads {Γ = ‵ (fat fullShare τ (bs .0) 0 v) ∷ ‵ (fdies τ (bs .0)) ∷ Γ} t τs (bs .1) vs (suc k) (at .1) (are .1)))
 
+    -- entry n of the context is taken to its front
+    pub opds-at : {Γ : List (Item 𝓤)} → K → (n : ℕ) {F : Fml} {xs : List Operand} {vs : List Val} → nth 𝓤 H A n Γ ≡ ‵ F
+        → Opds K W (‵ F ∷ del 𝓤 H A n Γ) E xs vs → Opds K W Γ E xs vs
+    opds-at {Γ} t n {F} e os =
+        opds-apart
+        (via 𝓤 _ (subst (λ (j : Item 𝓤). ent 𝓤 (⋆ 𝓤 H A Γ) (sep 𝓤 (mean 𝓤 H A j) (⋆ 𝓤 H A (del 𝓤 H A n Γ)))) e (pull 𝓤 H A n Γ)) (push 𝓤 H A (‵ F) (del 𝓤 H A n Γ)))
+        (via 𝓤 _ (pop 𝓤 H A (‵ F) (del 𝓤 H A n Γ)) (subst (λ (j : Item 𝓤). ent 𝓤 (sep 𝓤 (mean 𝓤 H A j) (⋆ 𝓤 H A (del 𝓤 H A n Γ))) (⋆ 𝓤 H A Γ)) e (unpull 𝓤 H A n Γ)))
+        os
+
     -- entry n of the context has them
     pub read-all : {Γ : List (Item 𝓤)} → K → (n : ℕ) (τs : List Ty) (bs : Addrs τs) (vs : List Val) (k : ℕ) → From E k τs bs → Typed τs vs
         → nth 𝓤 H A n Γ ≡ ‵ (cells τs bs vs) → Opds K W Γ E (copies k τs) vs
-    read-all {Γ} t n τs bs vs k at are e =
-        opds-apart
-        (via 𝓤 _ (subst (λ (j : Item 𝓤). ent 𝓤 (⋆ 𝓤 H A Γ) (sep 𝓤 (mean 𝓤 H A j) (⋆ 𝓤 H A (del 𝓤 H A n Γ)))) e (pull 𝓤 H A n Γ))
-        (push 𝓤 H A (‵ (cells τs bs vs)) (del 𝓤 H A n Γ)))
-        (via 𝓤 _ (pop 𝓤 H A (‵ (cells τs bs vs)) (del 𝓤 H A n Γ))
-        (subst (λ (j : Item 𝓤). ent 𝓤 (sep 𝓤 (mean 𝓤 H A j) (⋆ 𝓤 H A (del 𝓤 H A n Γ))) (⋆ 𝓤 H A Γ)) e (unpull 𝓤 H A n Γ)))
-        (reads {Γ = del 𝓤 H A n Γ} t τs bs vs k at are)
+    read-all {Γ} t n τs bs vs k at are e = opds-at t n e (reads {Γ = del 𝓤 H A n Γ} t τs bs vs k at are)

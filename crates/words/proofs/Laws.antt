@@ -7,7 +7,8 @@ use Prim.Native.String.{String}
 use lib.Dec.{leb}
 use lib.ListN.{length, replicate}
 use lib.Text.{eqt}
-use Rattle.words.specs.Words.{Refusal, Unfit, Damaged, Badstep, Nodesk, Noblock, Stage, Owned, Nothing, Lost, Notlabel, Range, Worn, Full, Busy, Empty, Answer, Put, Got, Took, Whole, Seen, Claimed, Done, Refused, Letters, said, letters}
+use Rattle.words.specs.Words.{Refusal, Answer, Refused, Letters, said, letters}
+use Rattle.words.specs.Spelling.{answers, words, Spelling}
 use Rattle.words.specs.Promises.{Numbered, Valued, Worded}
 
 -- any two outcomes that a promise allows are equal
@@ -20,15 +21,10 @@ value-unique a r s p q = p ∙ sym q
 pub word-unique : (a : Answer) (r s : Letters) → Worded a r → Worded a s → r ≡ s
 word-unique a r s p q = p ∙ sym q
 
--- the refusals in the paper's order, and all answers that carry v
-abbrev pub refusals : List Refusal
-refusals = Unfit ∷ Damaged ∷ Badstep ∷ Nodesk ∷ Noblock ∷ Stage ∷ Owned ∷ Nothing ∷ Lost ∷ Notlabel ∷ Range ∷ Worn ∷ Full ∷ Busy ∷ Empty ∷ []
-
-abbrev pub answers : ℕ → List Answer
-answers v = Put v ∷ Got v ∷ Took v ∷ Whole v ∷ Seen v ∷ Claimed v ∷ Done ∷ map (λ w. Refused w v) refusals
-
-abbrev pub words : ℕ → List String
-words v = map (λ a. (said a) .word) (answers v)
+-- each word is spelt as the paper spells it
+pub spelling : Spelling
+unfolding Spelling
+spelling v = refl
 
 -- an answer that is no refusal has number 0, and the refusals have 1 to 15
 pub fifteen : (v : ℕ) → map (λ a. (said a) .number) (answers v) ≡ replicate 7 0 ++ (1 ∷ 2 ∷ 3 ∷ 4 ∷ 5 ∷ 6 ∷ 7 ∷ 8 ∷ 9 ∷ 10 ∷ 11 ∷ 12 ∷ 13 ∷ 14 ∷ 15 ∷ [])

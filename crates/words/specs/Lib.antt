@@ -1,2 +1,3 @@
 pub mod Words
+pub mod Spelling
 pub mod Promises

@@ -2,14 +2,15 @@
 //! million steps. The twin checks the line as the library does and walks all desks for each block; the model counts the
 //! desks in one walk, and so does less.
 //!
-//! A line is opened and an order fills three quarters of it. Then come cycles of sixteen steps: the owner puts five labels
-//! and gets three, and two desks make a round each of look, claim, fetch and finish, with gets between look and claim.
-//! Desks and blocks go round.
+//! A line is opened and an order fills three quarters of it. Then come cycles of sixteen steps: the owner puts five
+//! labels and gets three, and two desks make a round each of look, claim, fetch and finish, with gets between look
+//! and claim. Desks and blocks go round.
 //!
-//! All are called in the same way, and all have to give the same answers and leave the same memory. They take turns every
-//! ten thousand steps, so that whatever else the machine does falls on all; of each such piece the least time of several
-//! rounds counts. The measure itself leans to the library a little: with the model's own code in the library's place the
-//! ratio came out as 0.95 to 0.96 at 8 blocks and 0.96 to 0.99 at 64, so differences below that say nothing.
+//! All are called in the same way, and all have to give the same answers and leave the same memory. They take turns
+//! every ten thousand steps, so that whatever else the machine does falls on all; of each such piece the least time
+//! of several rounds counts. The measure itself leans to the library a little: with the model's own code in the
+//! library's place the ratio came out as 0.95 to 0.96 at 8 blocks and 0.96 to 0.99 at 64, so differences below that
+//! say nothing.
 
 mod twin;
 
@@ -55,7 +56,8 @@ macro_rules! called {
             a: u32,
             b: u32,
         ) -> Answer {
-            // SAFETY: the caller lends three parts that are valid and apart; the model's records are laid out as the library's.
+            // SAFETY: the caller lends three parts that are valid and apart; the model's records are laid out as the
+            // library's.
             let (head, table, entries) = unsafe {
                 let table = std::slice::from_raw_parts_mut(table.cast(), records);
                 (&mut *head.cast(), table, std::slice::from_raw_parts_mut(entries, labels))
@@ -98,7 +100,8 @@ struct Line {
 impl Line {
     /// Opened, and three quarters filled.
     fn filled(nb: u32, ne: u32, t: u32) -> Self {
-        let mut line = lbq::Line::open(nb, ne, t).expect("the sizes are fit");
+        let sizes = lbq::Sizes { blocks: nb, entries: ne, desks: t };
+        let mut line = lbq::Line::open(sizes).expect("the sizes are fit");
         line.order(1, nb * ne * 3 / 4).expect("there is room");
         let (head, table, entries) = line.into_parts();
         Self { head, table, entries }

@@ -1,5 +1,5 @@
-//! The library's own way to check a line, in plain Rust and in place: rule by rule, block by block, and for each block all
-//! desks are walked.
+//! The library's own way to check a line, in plain Rust and in place: rule by rule, block by block, and for each
+//! block all desks are walked.
 
 use model::records::{Block, Desk, Head, CLAIMED, FETCHED, IDLE, LOOKED, ROUNDS};
 

@@ -1,7 +1,7 @@
 //! The calls, made on the library and on the model.
 
 use crate::memory::Memory;
-use lbq::{Answer as Word, Fault, Refusal, Step, Stopped};
+use lbq::{Answer as Word, Fault, Refusal, Sizes, Step, Stopped};
 use model::line;
 use model::records::{Answer, Checked, Views};
 use model::words::word;
@@ -126,8 +126,9 @@ impl Call {
     fn safe(self, memory: &mut Memory, stepped: impl Fn(&mut lbq::LineMut<'_>, Step) -> Answer) -> Said {
         let mut line = memory.lent();
         match self {
-            Self::Open(nb, ne, t) => {
-                Said::Answer(Answer { number: line.reopen(nb, ne, t).err().map_or(0, Refusal::number), value: 0 })
+            Self::Open(blocks, entries, desks) => {
+                let opened = line.reopen(Sizes { blocks, entries, desks });
+                Said::Answer(Answer { number: opened.err().map_or(0, Refusal::number), value: 0 })
             }
             Self::Step(code, a, b) => match u8::try_from(code) {
                 Ok(code) => Said::Answer(stepped(&mut line, Step { code, a, b })),
@@ -140,7 +141,9 @@ impl Call {
             Self::Check => Said::Checked(match line.check() {
                 Ok(()) => Checked { number: 0, place: 0, rule: 0 },
                 Err(Fault::Unfit) => Checked { number: 1, place: 0, rule: 0 },
-                Err(Fault::Damaged { place, rule }) => Checked { number: 2, place, rule },
+                Err(Fault::Damaged { place, rule }) => {
+                    Checked { number: 2, place: place.number(), rule: rule.number() }
+                }
             }),
             Self::Survey => Said::Views(match line.survey() {
                 Ok(lbq::Survey { mask, count, lowest }) => {

@@ -1,5 +1,5 @@
-//! Memory to lend: head, table and entries in one stretch of bytes, with guard bytes before, between and behind. The parts
-//! stand at any addresses that their types allow, so that none is better aligned than C promises.
+//! Memory to lend: head, table and entries in one stretch of bytes, with guard bytes before, between and behind. The
+//! parts stand at any addresses that their types allow, so that none is better aligned than C promises.
 
 use crate::random::Random;
 use model::records::{Block, Head};

@@ -24,7 +24,8 @@ pub enum Mood {
     Worn,
     /// From any sound line, also such as no run reaches, with any numbers in entries and idle desks.
     Lent,
-    /// A line of a run or a sound line with some of its numbers changed: the same refusal from all calls, and no change.
+    /// A line of a run or a sound line with some of its numbers changed: the same refusal from all calls, and no
+    /// change.
     Damaged,
     /// Sizes and lengths that do not fit: UNFIT from all calls, and no change.
     Unfit,
@@ -125,7 +126,8 @@ pub(crate) fn play(mood: Mood, seed: u64, mut random: Random, tally: &mut Tally)
 
 // Steps that mostly can be done.
 
-/// What the steps of a while lean to: weights of put, get, order and a desk's step, and whether all desks want one block.
+/// What the steps of a while lean to: weights of put, get, order and a desk's step, and whether all desks want one
+/// block.
 #[derive(Clone, Copy)]
 struct Leaning {
     weights: [u32; 4],
@@ -401,7 +403,8 @@ fn damage(sizes: Sizes, random: &mut Random, run: &mut Run) {
         4 => head.p = other(random, head.p),
         5 => head.k = other(random, head.k),
         6 => {
-            // The same window, a round on or back, or beyond the last; perhaps with all rounds, so that only rule 1 tells.
+            // The same window, a round on or back, or beyond the last; perhaps with all rounds, so that only rule 1
+            // tells.
             let beyond = ROUNDS.wrapping_sub(head.p / nb);
             let rounds = random.of(&[1, 1_u32.wrapping_neg(), beyond, beyond]);
             head.p = head.p.wrapping_add(rounds.wrapping_mul(nb));
@@ -467,7 +470,8 @@ fn damage(sizes: Sizes, random: &mut Random, run: &mut Run) {
 
 fn unfit(sizes: Sizes, seed: u64, random: &mut Random, tally: &mut Tally) -> Outcome {
     let Sizes { nb, ne, t } = sizes;
-    // Each time one thing is wrong alone: the table, the entries, a size with the lengths that would be its own; or any.
+    // Each time one thing is wrong alone: the table, the entries, a size with the lengths that would be its own; or
+    // any.
     let (nb, ne, records, labels) = match random.below(4) {
         0 => (nb, ne, random.of(&[0, 1, nb - 1, nb + 1, 63, 64, 65, 100]), nb * ne),
         1 => (nb, ne, nb, random.of(&[0, nb * ne - 1, nb * ne + 1, nb * (ne + 1), 4096, 4097, 5000])),

@@ -1,4 +1,4 @@
-//! What was met, mood by mood: how often each answer was given and each rule named.
+//! What was met, mood by mood: how often each call was made and what was said to it.
 
 use crate::call::{Call, Said};
 use crate::mood::Mood;
@@ -21,15 +21,94 @@ pub struct Tally {
 #[derive(Clone, Debug, Default)]
 struct Met {
     runs: u64,
-    steps: u64,
-    answers: [[u64; 16]; 8],
-    opened: [u64; 2],
-    rules: [u64; 10],
-    surveys: [u64; 3],
+    calls: u64,
+    said: BTreeMap<(Asked, &'static str), u64>,
 }
 
-/// The good words, in the order of the rows of `answers`; the last row is that of codes not listed.
-const CODES: [u32; 8] = [0, 1, 2, 64, 16, 32, 48, 255];
+/// What was asked for.
+#[derive(Clone, Copy, Debug, PartialEq, Eq, PartialOrd, Ord)]
+enum Asked {
+    Put,
+    Get,
+    Order,
+    Look,
+    Claim,
+    Fetch,
+    Finish,
+    Unlisted,
+    Opening,
+    Check,
+    Survey,
+}
+
+/// What can be said to each call.
+const CAN_BE_SAID: [(Asked, &[&str]); 11] = [
+    (Asked::Put, &["PUT", "UNFIT", "DAMAGED", "NOTLABEL", "WORN", "FULL", "BUSY"]),
+    (Asked::Get, &["GOT", "UNFIT", "DAMAGED", "EMPTY"]),
+    (Asked::Order, &["WHOLE", "UNFIT", "DAMAGED", "RANGE", "WORN", "FULL", "BUSY"]),
+    (Asked::Look, &["SEEN", "UNFIT", "DAMAGED", "NODESK", "NOBLOCK", "STAGE", "OWNED", "NOTHING"]),
+    (Asked::Claim, &["CLAIMED", "UNFIT", "DAMAGED", "NODESK", "STAGE", "LOST"]),
+    (Asked::Fetch, &["TOOK", "UNFIT", "DAMAGED", "NODESK", "STAGE"]),
+    (Asked::Finish, &["DONE", "UNFIT", "DAMAGED", "NODESK", "STAGE"]),
+    (Asked::Unlisted, &["UNFIT", "DAMAGED", "BADSTEP"]),
+    (Asked::Opening, &["OPEN", "UNFIT"]),
+    (Asked::Check, &["sound", "UNFIT", "rule 1", "rule 2", "rule 3", "rule 4", "rule 5", "rule 6", "rule 7"]),
+    (Asked::Survey, &["SURVEY", "UNFIT", "DAMAGED"]),
+];
+
+impl Asked {
+    fn of(call: Call) -> Self {
+        match call {
+            Call::Step(0, ..) => Self::Put,
+            Call::Step(1, ..) => Self::Get,
+            Call::Step(2, ..) | Call::Order(..) => Self::Order,
+            Call::Step(16..=31, ..) => Self::Claim,
+            Call::Step(32..=47, ..) => Self::Fetch,
+            Call::Step(48..=63, ..) => Self::Finish,
+            Call::Step(64..=79, ..) => Self::Look,
+            Call::Step(..) => Self::Unlisted,
+            Call::Open(..) => Self::Opening,
+            Call::Check => Self::Check,
+            Call::Survey => Self::Survey,
+        }
+    }
+
+    /// The row of the table for this word, and where it stands: the good words of steps, their refusals by number, and
+    /// the other calls. All steps share the rows of their words.
+    fn row(self, said: &str) -> (u32, String) {
+        match self {
+            Self::Opening | Self::Check | Self::Survey => {
+                (u32::MAX, format!("{} {said}", format!("{self:?}").to_lowercase()))
+            }
+            _ => ((1..=u8::MAX.into()).find(|&number| word(0, number) == said).unwrap_or(0), said.to_owned()),
+        }
+    }
+}
+
+/// What was said, in a word.
+fn in_a_word(call: Call, said: Said) -> &'static str {
+    let good = match (call, said) {
+        (Call::Step(code, ..), _) => word(code, 0),
+        (Call::Order(..), _) => word(2, 0),
+        (Call::Open(..), _) => "OPEN",
+        (Call::Survey, _) => "SURVEY",
+        (Call::Check, Said::Checked(checked)) => match checked.rule {
+            1 => "rule 1",
+            2 => "rule 2",
+            3 => "rule 3",
+            4 => "rule 4",
+            5 => "rule 5",
+            6 => "rule 6",
+            7 => "rule 7",
+            _ => "sound",
+        },
+        (Call::Check, _) => "no word",
+    };
+    match (call, said.number()) {
+        (_, 0) | (Call::Check, 2) => good,
+        (_, number) => word(0, number),
+    }
+}
 
 impl Tally {
     pub(crate) fn run(&mut self, mood: Mood) {
@@ -39,103 +118,60 @@ impl Tally {
     pub(crate) fn add(&mut self, mood: Mood, call: Call, said: Said) {
         self.steps += 1;
         let met = self.moods.entry(mood).or_default();
-        met.steps += 1;
-        match (call, said) {
-            (Call::Open(..), said) => met.opened[said.number() as usize] += 1,
-            (_, Said::Checked(checked)) => {
-                // Sound and UNFIT, then the rules.
-                met.rules[if checked.number < 2 { checked.number } else { 2 + checked.rule } as usize] += 1;
-            }
-            (_, Said::Views(views)) => met.surveys[views.number as usize] += 1,
-            (Call::Step(code, ..), said) => met.answers[row(code)][said.number() as usize] += 1,
-            (_, said) => met.answers[2][said.number() as usize] += 1,
-        }
+        met.calls += 1;
+        *met.said.entry((Asked::of(call), in_a_word(call, said))).or_default() += 1;
     }
 
-    /// What was never met: answers that a step of that kind can have, and rules.
+    /// What was never met of all that can be said.
     #[must_use]
     pub fn missing(&self) -> Vec<String> {
-        let all = |count: &dyn Fn(&Met) -> u64| self.moods.values().map(count).sum::<u64>();
-        let mut missing = Vec::new();
-        for (row, refusals) in [
-            (0, &[0, 1, 2, 10, 12, 13, 14][..]),
-            (1, &[0, 1, 2, 15]),
-            (2, &[0, 1, 2, 11, 12, 13, 14]),
-            (3, &[0, 1, 2, 4, 5, 6, 7, 8]),
-            (4, &[0, 1, 2, 4, 6, 9]),
-            (5, &[0, 1, 2, 4, 6]),
-            (6, &[0, 1, 2, 4, 6]),
-            (7, &[1, 2, 3]),
-        ] {
-            for &number in refusals {
-                if all(&|met| met.answers[row][number as usize]) == 0 {
-                    missing.push(format!("{} to code {}", word(CODES[row], number), CODES[row]));
-                }
+        let all = CAN_BE_SAID.iter().flat_map(|&(asked, words)| words.iter().map(move |&word| (asked, word)));
+        let met = |key| self.moods.values().any(|met| met.said.contains_key(&key));
+        all.filter(|&key| !met(key)).map(|(asked, word)| format!("{asked:?}: {word}")).collect()
+    }
+
+    /// The rows of the table: all that can be said, and whatever else was said.
+    fn rows(&self) -> Vec<(u32, String)> {
+        let expected = CAN_BE_SAID.iter().flat_map(|(asked, words)| words.iter().map(|word| asked.row(word)));
+        let said = self.moods.values().flat_map(|met| met.said.keys().map(|(asked, word)| asked.row(word)));
+        let mut rows = Vec::new();
+        for row in expected.chain(said) {
+            if !rows.contains(&row) {
+                rows.push(row);
             }
         }
-        let checks = ["sound", "UNFIT", "", "rule 1", "rule 2", "rule 3", "rule 4", "rule 5", "rule 6", "rule 7"];
-        for (index, name) in checks.into_iter().enumerate() {
-            if !name.is_empty() && all(&|met| met.rules[index]) == 0 {
-                missing.push(format!("check: {name}"));
-            }
-        }
-        for number in 0..3 {
-            if all(&|met| met.surveys[number]) == 0 {
-                missing.push(format!("survey: number {number}"));
-            }
-        }
-        for number in 0..2 {
-            if all(&|met| met.opened[number]) == 0 {
-                missing.push(format!("opening: number {number}"));
-            }
-        }
-        missing
+        rows.sort_by_key(|&(at, _)| at);
+        rows
     }
 }
 
-fn row(code: u32) -> usize {
-    match code {
-        0..=2 => code as usize,
-        16..=31 => 4,
-        32..=47 => 5,
-        48..=63 => 6,
-        64..=79 => 3,
-        _ => 7,
+impl Met {
+    fn of_row(&self, row: &(u32, String)) -> u64 {
+        self.said.iter().filter(|((asked, word), _)| asked.row(word) == *row).map(|(_, count)| count).sum()
     }
 }
 
+/// A table: a column for each mood and one for all, then the runs, the calls, and a row for each word.
 impl fmt::Display for Tally {
     fn fmt(&self, f: &mut fmt::Formatter<'_>) -> fmt::Result {
-        writeln!(
-            f,
-            "{} calls, {} of them answered by the book, {} memories told by it",
-            self.steps, self.booked, self.told
-        )?;
-        for (mood, met) in &self.moods {
-            write!(f, "{mood:?}: {} runs, {} calls;", met.runs, met.steps)?;
-            for (row, counts) in met.answers.iter().enumerate() {
-                if counts[0] > 0 {
-                    write!(f, " {} {}", word(CODES[row], 0), counts[0])?;
-                }
+        let line = |f: &mut fmt::Formatter<'_>, name: &str, count: &dyn Fn(&Met) -> u64| {
+            write!(f, "{name:<16}")?;
+            let counts: Vec<u64> = self.moods.values().map(count).collect();
+            for count in &counts {
+                write!(f, " {count:>9}")?;
             }
-            for number in 1..16 {
-                let count: u64 = met.answers.iter().map(|counts| counts[number]).sum();
-                if count > 0 {
-                    write!(f, " {} {count}", word(0, number as u32))?;
-                }
-            }
-            write!(
-                f,
-                "; opened {} UNFIT {}; check sound {} UNFIT {}",
-                met.opened[0], met.opened[1], met.rules[0], met.rules[1]
-            )?;
-            for rule in 1..8 {
-                if met.rules[2 + rule] > 0 {
-                    write!(f, " rule {rule}: {}", met.rules[2 + rule])?;
-                }
-            }
-            writeln!(f, "; survey {} UNFIT {} DAMAGED {}", met.surveys[0], met.surveys[1], met.surveys[2])?;
+            writeln!(f, " {:>10}", counts.iter().sum::<u64>())
+        };
+        write!(f, "{:<16}", "")?;
+        for mood in self.moods.keys() {
+            write!(f, " {:>9}", format!("{mood:?}"))?;
         }
-        Ok(())
+        writeln!(f, " {:>10}", "all")?;
+        line(f, "runs", &|met| met.runs)?;
+        line(f, "calls", &|met| met.calls)?;
+        for row in self.rows() {
+            line(f, &row.1, &|met| met.of_row(&row))?;
+        }
+        writeln!(f, "{} calls were answered by the book too, {} memories told by it", self.booked, self.told)
     }
 }

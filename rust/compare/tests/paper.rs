@@ -17,85 +17,68 @@ fn said(run: &mut Run, call: Call) -> Said {
     run.call(call).unwrap_or_else(|difference| panic!("{difference}"))
 }
 
-/// Plays steps written as words, each with the answer that it has to get.
-fn plays(run: &mut Run, steps: &[(&str, &str)]) {
-    for (number, (step, expected)) in steps.iter().enumerate() {
-        let (code, a, b) = read(step);
+/// A step: code, A and B.
+type Step = (u32, u32, u32);
+
+const fn put(label: u32) -> Step {
+    (0, label, 0)
+}
+
+const fn get() -> Step {
+    (1, 0, 0)
+}
+
+const fn order(first: u32, last: u32) -> Step {
+    (2, first, last)
+}
+
+const fn claim(desk: u32) -> Step {
+    (16 + desk, 0, 0)
+}
+
+const fn fetch(desk: u32) -> Step {
+    (32 + desk, 0, 0)
+}
+
+const fn finish(desk: u32) -> Step {
+    (48 + desk, 0, 0)
+}
+
+const fn look(desk: u32, block: u32) -> Step {
+    (64 + desk, block, 0)
+}
+
+/// Plays steps, each with the answer that it has to get.
+fn plays(run: &mut Run, steps: &[(Step, &str)]) {
+    for (number, &((code, a, b), expected)) in steps.iter().enumerate() {
         let answer = run.step(code, a, b).unwrap_or_else(|difference| panic!("{difference}"));
         let answer = format!("{} {}", word(code, answer.number), answer.value);
-        assert_eq!(&answer, expected, "step {}: {step}", number + 1);
+        assert_eq!(answer, expected, "step {}: {}", number + 1, Call::Step(code, a, b));
     }
-}
-
-fn read(step: &str) -> (u32, u32, u32) {
-    let words: Vec<&str> = step.split(' ').collect();
-    let number = |index: usize| words.get(index).map_or(0, |word| word.parse().expect("a number"));
-    match words[0] {
-        "put" => (0, number(1), 0),
-        "get" => (1, 0, 0),
-        "order" => (2, number(1), number(2)),
-        "claim" => (16 + number(1), 0, 0),
-        "fetch" => (32 + number(1), 0, 0),
-        "finish" => (48 + number(1), 0, 0),
-        "look" => (64 + number(1), number(2), 0),
-        "step" => (number(1), 0, 0),
-        _ => panic!("no step: {step}"),
-    }
-}
-
-#[test]
-fn the_listing() {
-    with_line(2, 2, 2, |run| {
-        plays(
-            run,
-            &[
-                ("order 1 5", "FULL 4"),
-                ("look 0 1", "SEEN 0"),
-                ("look 1 1", "SEEN 0"),
-                ("claim 0", "CLAIMED 0"),
-                ("claim 1", "LOST 0"),
-                ("get", "GOT 1"),
-                ("get", "GOT 2"),
-                ("get", "GOT 4"),
-                ("put 5", "PUT 5"),
-                ("put 6", "PUT 6"),
-                ("put 7", "FULL 0"),
-                ("get", "GOT 5"),
-                ("put 7", "BUSY 0"),
-                ("fetch 0", "TOOK 3"),
-                ("finish 0", "DONE 0"),
-                ("put 7", "PUT 7"),
-                ("get", "GOT 6"),
-                ("get", "GOT 7"),
-                ("get", "EMPTY 0"),
-                ("look 1 0", "OWNED 0"),
-            ],
-        );
-    });
 }
 
 #[test]
 fn either_side_of_the_line() {
     with_line(2, 64, 1, |run| {
-        plays(run, &[("order 1 100", "WHOLE 100")]);
+        plays(run, &[(order(1, 100), "WHOLE 100")]);
         for label in 1..=100 {
-            plays(run, &[("get", &format!("GOT {label}"))]);
+            plays(run, &[(get(), &format!("GOT {label}"))]);
         }
-        plays(run, &[("get", "EMPTY 0")]);
+        plays(run, &[(get(), "EMPTY 0")]);
     });
     with_line(2, 64, 1, |run| {
         plays(
             run,
             &[
-                ("get", "EMPTY 0"),
-                ("look 0 0", "OWNED 0"),
-                ("look 0 1", "NOTHING 0"),
-                ("order 1 1", "WHOLE 1"),
-                ("order 1 0", "RANGE 0"),
-                ("order 999999 1000000", "RANGE 0"),
-                ("order 1000000 1000000", "RANGE 0"),
-                ("put 999999", "PUT 999999"),
-                ("put 1000000", "NOTLABEL 0"),
+                (get(), "EMPTY 0"),
+                (look(0, 0), "OWNED 0"),
+                (look(0, 1), "NOTHING 0"),
+                (order(1, 1), "WHOLE 1"),
+                (order(1, 0), "RANGE 0"),
+                (order(999999, 1000000), "RANGE 0"),
+                (order(1000000, 1000000), "RANGE 0"),
+                (put(999999), "PUT 999999"),
+                (put(1000000), "NOTLABEL 0"),
             ],
         );
     });
@@ -103,17 +86,17 @@ fn either_side_of_the_line() {
         plays(
             run,
             &[
-                ("put 1", "PUT 1"),
-                ("put 2", "PUT 2"),
-                ("look 0 1", "SEEN 0"),
-                ("get", "GOT 1"),
-                ("get", "GOT 2"),
-                ("claim 0", "LOST 0"),
-                ("claim 0", "STAGE 0"),
+                (put(1), "PUT 1"),
+                (put(2), "PUT 2"),
+                (look(0, 1), "SEEN 0"),
+                (get(), "GOT 1"),
+                (get(), "GOT 2"),
+                (claim(0), "LOST 0"),
+                (claim(0), "STAGE 0"),
             ],
         );
     });
-    with_line(64, 64, 16, |run| plays(run, &[("order 0 999999", "FULL 4096"), ("order 0 999999", "FULL 0")]));
+    with_line(64, 64, 16, |run| plays(run, &[(order(0, 999999), "FULL 4096"), (order(0, 999999), "FULL 0")]));
 }
 
 #[test]
@@ -144,7 +127,7 @@ fn sizes() {
         assert_eq!(opens(4 + wide, 2, 1, 4, 8), 1);
         assert_eq!(opens(4, 2 + wide, 1, 4, 8), 1);
         assert_eq!(opens(4, 2, 1 + wide, 4, 8), 1);
-        with_line(4, 2, 1, |run| plays(run, &[(&format!("step {wide}"), "BADSTEP 0")]));
+        with_line(4, 2, 1, |run| plays(run, &[((wide, 0, 0), "BADSTEP 0")]));
     }
 }
 
@@ -155,7 +138,7 @@ fn worn() {
             assert_eq!(run.step(0, label, 0).unwrap().number, 0);
             assert_eq!(run.step(1, 0, 0).unwrap().value, label);
         }
-        plays(run, &[("put 5", "WORN 0"), ("order 5 6", "WORN 0"), ("get", "EMPTY 0"), ("look 0 1", "OWNED 0")]);
+        plays(run, &[(put(5), "WORN 0"), (order(5, 6), "WORN 0"), (get(), "EMPTY 0"), (look(0, 1), "OWNED 0")]);
     });
 }
 
@@ -163,26 +146,26 @@ fn worn() {
 fn nearly_right() {
     // The last label of a block is placed there and read there.
     with_line(2, 3, 1, |run| {
-        plays(run, &[("order 1 3", "WHOLE 3")]);
+        plays(run, &[(order(1, 3), "WHOLE 3")]);
         assert_eq!((run.records().0.p, run.records().1[0].written), (0, 3));
-        plays(run, &[("get", "GOT 1"), ("get", "GOT 2"), ("get", "GOT 3"), ("get", "EMPTY 0")]);
+        plays(run, &[(get(), "GOT 1"), (get(), "GOT 2"), (get(), "GOT 3"), (get(), "EMPTY 0")]);
     });
     // A block filled again looks the same to a desk that compares the place alone.
     with_line(2, 1, 2, |run| {
         plays(
             run,
             &[
-                ("order 1 2", "WHOLE 2"),
-                ("look 0 1", "SEEN 0"),
-                ("get", "GOT 1"),
-                ("get", "GOT 2"),
-                ("order 3 4", "FULL 1"),
-                ("get", "GOT 3"),
-                ("put 4", "PUT 4"),
-                ("look 1 1", "SEEN 0"),
-                ("claim 0", "LOST 0"),
-                ("claim 1", "CLAIMED 0"),
-                ("fetch 1", "TOOK 4"),
+                (order(1, 2), "WHOLE 2"),
+                (look(0, 1), "SEEN 0"),
+                (get(), "GOT 1"),
+                (get(), "GOT 2"),
+                (order(3, 4), "FULL 1"),
+                (get(), "GOT 3"),
+                (put(4), "PUT 4"),
+                (look(1, 1), "SEEN 0"),
+                (claim(0), "LOST 0"),
+                (claim(1), "CLAIMED 0"),
+                (fetch(1), "TOOK 4"),
             ],
         );
     });
@@ -191,70 +174,70 @@ fn nearly_right() {
         plays(
             run,
             &[
-                ("order 1 2", "WHOLE 2"),
-                ("look 0 1", "SEEN 0"),
-                ("claim 0", "CLAIMED 0"),
-                ("get", "GOT 1"),
-                ("get", "EMPTY 0"),
-                ("put 3", "PUT 3"),
-                ("put 4", "FULL 0"),
-                ("get", "GOT 3"),
-                ("put 4", "BUSY 0"),
-                ("fetch 0", "TOOK 2"),
-                ("put 4", "BUSY 0"),
-                ("finish 0", "DONE 0"),
-                ("put 4", "PUT 4"),
+                (order(1, 2), "WHOLE 2"),
+                (look(0, 1), "SEEN 0"),
+                (claim(0), "CLAIMED 0"),
+                (get(), "GOT 1"),
+                (get(), "EMPTY 0"),
+                (put(3), "PUT 3"),
+                (put(4), "FULL 0"),
+                (get(), "GOT 3"),
+                (put(4), "BUSY 0"),
+                (fetch(0), "TOOK 2"),
+                (put(4), "BUSY 0"),
+                (finish(0), "DONE 0"),
+                (put(4), "PUT 4"),
             ],
         );
     });
     // What was stolen does not come out again.
     with_line(2, 2, 1, |run| {
-        plays(run, &[("order 1 4", "WHOLE 4"), ("look 0 1", "SEEN 0"), ("claim 0", "CLAIMED 0"), ("get", "GOT 1")]);
-        plays(run, &[("get", "GOT 2"), ("get", "GOT 4"), ("fetch 0", "TOOK 3"), ("get", "EMPTY 0")]);
+        plays(run, &[(order(1, 4), "WHOLE 4"), (look(0, 1), "SEEN 0"), (claim(0), "CLAIMED 0"), (get(), "GOT 1")]);
+        plays(run, &[(get(), "GOT 2"), (get(), "GOT 4"), (fetch(0), "TOOK 3"), (get(), "EMPTY 0")]);
     });
     // One get goes past every block that desks have emptied.
     with_line(4, 1, 2, |run| {
-        plays(run, &[("order 1 4", "WHOLE 4"), ("look 0 1", "SEEN 0"), ("claim 0", "CLAIMED 0")]);
-        plays(run, &[("look 1 2", "SEEN 0"), ("claim 1", "CLAIMED 0"), ("get", "GOT 1"), ("get", "GOT 4")]);
+        plays(run, &[(order(1, 4), "WHOLE 4"), (look(0, 1), "SEEN 0"), (claim(0), "CLAIMED 0")]);
+        plays(run, &[(look(1, 2), "SEEN 0"), (claim(1), "CLAIMED 0"), (get(), "GOT 1"), (get(), "GOT 4")]);
     });
     // NODESK, NOBLOCK, STAGE, in this order; a refused second look leaves the first.
     with_line(2, 2, 1, |run| {
-        plays(run, &[("order 1 4", "WHOLE 4"), ("look 1 9", "NODESK 0"), ("look 0 1", "SEEN 0")]);
-        plays(run, &[("look 0 0", "OWNED 0"), ("look 0 2", "NOBLOCK 0"), ("claim 0", "CLAIMED 0")]);
-        plays(run, &[("look 0 2", "NOBLOCK 0"), ("look 0 1", "STAGE 0"), ("finish 0", "STAGE 0")]);
+        plays(run, &[(order(1, 4), "WHOLE 4"), (look(1, 9), "NODESK 0"), (look(0, 1), "SEEN 0")]);
+        plays(run, &[(look(0, 0), "OWNED 0"), (look(0, 2), "NOBLOCK 0"), (claim(0), "CLAIMED 0")]);
+        plays(run, &[(look(0, 2), "NOBLOCK 0"), (look(0, 1), "STAGE 0"), (finish(0), "STAGE 0")]);
     });
     // FULL before BUSY.
     with_line(2, 1, 1, |run| {
-        plays(run, &[("order 1 2", "WHOLE 2"), ("look 0 1", "SEEN 0"), ("claim 0", "CLAIMED 0"), ("get", "GOT 1")]);
-        plays(run, &[("get", "EMPTY 0"), ("put 3", "PUT 3"), ("order 4 5", "FULL 0")]);
+        plays(run, &[(order(1, 2), "WHOLE 2"), (look(0, 1), "SEEN 0"), (claim(0), "CLAIMED 0"), (get(), "GOT 1")]);
+        plays(run, &[(get(), "EMPTY 0"), (put(3), "PUT 3"), (order(4, 5), "FULL 0")]);
     });
 }
 
-/// NB 4, NE 3, T 4. Turns 2 to 5: K is 3 with one label stolen, one read; turn 4 is full, turn 5 has one label. Desk 0 has
-/// claimed in turn 3, desk 1 fetched in turn 4, desk 2 looked at turn 4, desk 3 is idle.
+/// NB 4, NE 3, T 4. Turns 2 to 5: K is 3 with one label stolen, one read; turn 4 is full, turn 5 has one label. Desk
+/// 0 has claimed in turn 3, desk 1 fetched in turn 4, desk 2 looked at turn 4, desk 3 is idle.
 fn line_to_damage(run: &mut Run) {
     plays(
         run,
         &[
-            ("order 1 12", "WHOLE 12"),
-            ("look 0 3", "SEEN 0"),
-            ("claim 0", "CLAIMED 0"),
-            ("get", "GOT 1"),
-            ("get", "GOT 2"),
-            ("get", "GOT 3"),
-            ("get", "GOT 4"),
-            ("order 13 15", "WHOLE 3"),
-            ("look 1 0", "SEEN 0"),
-            ("claim 1", "CLAIMED 0"),
-            ("fetch 1", "TOOK 13"),
-            ("look 2 0", "SEEN 1"),
-            ("get", "GOT 5"),
-            ("get", "GOT 6"),
-            ("get", "GOT 7"),
-            ("get", "GOT 8"),
-            ("get", "GOT 9"),
-            ("get", "GOT 11"),
-            ("put 16", "PUT 16"),
+            (order(1, 12), "WHOLE 12"),
+            (look(0, 3), "SEEN 0"),
+            (claim(0), "CLAIMED 0"),
+            (get(), "GOT 1"),
+            (get(), "GOT 2"),
+            (get(), "GOT 3"),
+            (get(), "GOT 4"),
+            (order(13, 15), "WHOLE 3"),
+            (look(1, 0), "SEEN 0"),
+            (claim(1), "CLAIMED 0"),
+            (fetch(1), "TOOK 13"),
+            (look(2, 0), "SEEN 1"),
+            (get(), "GOT 5"),
+            (get(), "GOT 6"),
+            (get(), "GOT 7"),
+            (get(), "GOT 8"),
+            (get(), "GOT 9"),
+            (get(), "GOT 11"),
+            (put(16), "PUT 16"),
         ],
     );
 }
@@ -336,7 +319,7 @@ fn each_part_of_each_rule() {
             head.desks[15] = Desk { stage: 0, place: 1, turn: 3 };
         });
         assert_eq!(said(run, Call::Check).number(), 0);
-        plays(run, &[("look 3 0", "SEEN 1"), ("claim 3", "CLAIMED 1"), ("claim 2", "LOST 0")]);
+        plays(run, &[(look(3, 0), "SEEN 1"), (claim(3), "CLAIMED 1"), (claim(2), "LOST 0")]);
         assert_eq!(run.records().0.desks[15], Desk { stage: 0, place: 1, turn: 3 });
     });
 }
@@ -371,7 +354,7 @@ fn only_rule_1() {
     // WORN before FULL.
     with_line(2, 1, 1, |run| {
         read_line(run, 131_071, 131_070, [65_535, 65_535]);
-        plays(run, &[("put 1", "WORN 0"), ("get", "GOT 0"), ("put 1", "WORN 0")]);
+        plays(run, &[(put(1), "WORN 0"), (get(), "GOT 0"), (put(1), "WORN 0")]);
     });
 }
 
@@ -383,12 +366,12 @@ fn the_survey() {
         line_to_damage(run);
         // Turn 4 in block 0 has two labels left, turn 5 in block 1 one.
         assert_eq!(said(run, Call::Survey), views(0b11, 2, 0));
-        plays(run, &[("claim 2", "CLAIMED 1"), ("fetch 2", "TOOK 14"), ("fetch 2", "STAGE 0"), ("look 3 0", "SEEN 2")]);
-        plays(run, &[("claim 3", "CLAIMED 2"), ("fetch 3", "TOOK 15")]);
+        plays(run, &[(claim(2), "CLAIMED 1"), (fetch(2), "TOOK 14"), (fetch(2), "STAGE 0"), (look(3, 0), "SEEN 2")]);
+        plays(run, &[(claim(3), "CLAIMED 2"), (fetch(3), "TOOK 15")]);
         assert_eq!(said(run, Call::Survey), views(0b10, 1, 1));
     });
     with_line(64, 1, 1, |run| {
-        plays(run, &[("order 1 64", "WHOLE 64")]);
+        plays(run, &[(order(1, 64), "WHOLE 64")]);
         assert_eq!(said(run, Call::Survey), views(u64::MAX - 1, 63, 1));
     });
 }

@@ -9,16 +9,16 @@ fn main() -> io::Result<()> {
     let mut out = io::BufWriter::new(io::stdout().lock());
     let schedule = match Schedule::parse(&bytes) {
         Ok(schedule) => schedule,
-        Err(wrong) => return writeln!(out, "0 {wrong} 0"),
+        Err(wrong) => return writeln!(out, "0 {} 0", wrong.word()),
     };
-    let mut line = match Line::open(schedule.nb.into(), schedule.ne.into(), schedule.t.into()) {
+    let mut line = match Line::open(schedule.sizes) {
         Ok(line) => line,
-        Err(refusal) => return writeln!(out, "0 {refusal} 0"),
+        Err(refusal) => return writeln!(out, "0 {} 0", refusal.word()),
     };
     for (number, step) in (1..).zip(schedule) {
         match step {
             Ok(step) => writeln!(out, "{number} {}", line.step(step))?,
-            Err(cut) => writeln!(out, "{number} {cut} 0")?,
+            Err(cut) => writeln!(out, "{number} {} 0", cut.word())?,
         }
     }
     out.flush()

@@ -1,18 +1,22 @@
 //! A line over its own memory or over lent memory.
 
-use crate::answer::{Answer, Fault, Refusal, Stopped, Survey};
+use crate::answer::Answer;
+use crate::fault::Fault;
 use crate::raw;
-use crate::records::{Block, Head};
+use crate::records::{Block, Head, Stage};
+use crate::refusal::{Refusal, Stopped};
+use crate::sizes::Sizes;
 use crate::step::Step;
+use crate::survey::Survey;
 use std::borrow::BorrowMut;
 
 /// A line: a head, a block table and entries, with the steps on them.
 ///
-/// [`Line::open`] makes a line that owns its memory. [`Line::over`] takes memory from elsewhere, by reference or by value:
-/// anything that borrows as a [`Head`], as `[Block]` and as `[u32]`.
+/// [`Line::open`] makes a line that owns its memory. [`Line::over`] takes memory from elsewhere, by reference or by
+/// value: anything that borrows as a [`Head`], as `[Block]` and as `[u32]`.
 ///
-/// Every step checks the memory first. On a refusal it stays as it was, except for what the paper names: the blocks that
-/// an `EMPTY` get left behind, the idle desk of `LOST`, and the labels that an order had placed.
+/// Every step checks the memory first. On a refusal it stays as it was, except for what the paper names: the blocks
+/// that an `EMPTY` get left behind, the idle desk of `LOST`, and the labels that an order had placed.
 #[derive(Clone, Debug)]
 pub struct Line<H = Head, B = Vec<Block>, E = Vec<u32>> {
     head: H,
@@ -24,19 +28,19 @@ pub struct Line<H = Head, B = Vec<Block>, E = Vec<u32>> {
 pub type LineMut<'m> = Line<&'m mut Head, &'m mut [Block], &'m mut [u32]>;
 
 impl Line {
-    /// Opens a line of NB blocks (2 to 64), NE entries a block (1 to 64) and T desks (1 to 16) in memory of its own.
+    /// Opens a line of these sizes in memory of its own.
     ///
     /// # Errors
     ///
     /// [`Refusal::Unfit`] for a size outside its limits.
-    pub fn open(nb: u32, ne: u32, t: u32) -> Result<Self, Refusal> {
+    pub fn open(sizes: Sizes) -> Result<Self, Refusal> {
         // Memory is made for sizes that could be right only; the library decides which are.
-        let (records, labels) = match (u8::try_from(nb), u8::try_from(ne)) {
-            (Ok(nb), Ok(ne)) => (usize::from(nb), usize::from(nb) * usize::from(ne)),
+        let (records, labels) = match (u8::try_from(sizes.blocks), u8::try_from(sizes.entries)) {
+            (Ok(blocks), Ok(entries)) => (usize::from(blocks), usize::from(blocks) * usize::from(entries)),
             _ => (0, 0),
         };
         let mut line = Self::over(Head::default(), vec![Block::default(); records], vec![0; labels]);
-        line.reopen(nb, ne, t)?;
+        line.reopen(sizes)?;
         Ok(line)
     }
 }
@@ -74,13 +78,21 @@ where
         self.entries.borrow()
     }
 
+    /// The stage of a desk. There is none for a desk that the head has no room for, and in memory that breaks rule 3
+    /// perhaps none for one that it has.
+    pub fn stage(&self, desk: u32) -> Option<Stage> {
+        let desk = self.head().desks.get(usize::try_from(desk).ok()?)?;
+        Stage::from_number(desk.stage)
+    }
+
     /// Opens a line on this memory, whatever stands there: everything becomes 0 and all desks idle.
     ///
     /// # Errors
     ///
-    /// [`Refusal::Unfit`] for a size outside its limits, or memory of other lengths than NB and NB × NE. Everything stays
-    /// as it was.
-    pub fn reopen(&mut self, nb: u32, ne: u32, t: u32) -> Result<(), Refusal> {
+    /// [`Refusal::Unfit`] for a size outside its limits, or memory of other lengths than NB and NB × NE. Everything
+    /// stays as it was.
+    pub fn reopen(&mut self, sizes: Sizes) -> Result<(), Refusal> {
+        let Sizes { blocks: nb, entries: ne, desks: t } = sizes;
         let (head, table, entries) = self.lend();
         let (records, labels) = (table.len(), entries.len());
         // SAFETY: the three parts are borrowed for this call alone, so they are valid, aligned and apart.

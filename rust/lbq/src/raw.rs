@@ -1,8 +1,8 @@
 //! The library's calls as C sees them (`include/lbq.h`), for code that lends memory by pointer.
 //!
-//! All pointers are aligned and not null, also where the length is 0; the three parts do not overlap; each length is that
-//! of the memory lent; and nobody else touches that memory during the call. The lengths and the numbers in the memory may
-//! be any: what does not fit is refused.
+//! All pointers are aligned and not null, also where the length is 0; the three parts do not overlap; each length is
+//! that of the memory lent; and nobody else touches that memory during the call. The lengths and the numbers in the
+//! memory may be any: what does not fit is refused.
 
 use crate::records::{Block, Head};
 
@@ -45,6 +45,9 @@ pub struct Views {
 const _: () = assert!(size_of::<Answer>() == 8 && size_of::<Checked>() == 12 && size_of::<Views>() == 24);
 
 extern "C" {
+    /// The number of the library's interface.
+    pub fn lbq_version() -> u32;
+
     /// Opens a line of NB blocks, NE entries a block and T desks on this memory.
     pub fn lbq_open(
         head: *mut Head,

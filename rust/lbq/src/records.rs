@@ -1,10 +1,42 @@
 //! The memory that is lent to the library, laid out as C lays it out.
 
+/// What a desk has done, and so which step it can do next: an idle desk looks; a looked one looks again or claims; a
+/// claimed one fetches; a fetched one finishes.
+#[derive(Clone, Copy, Debug, PartialEq, Eq, Hash)]
+#[repr(u16)]
+pub enum Stage {
+    /// It has nothing.
+    Idle = 0,
+    /// It has seen a turn and a place.
+    Looked = 1,
+    /// It has won the place.
+    Claimed = 2,
+    /// It has the label.
+    Fetched = 3,
+}
+
+impl Stage {
+    /// All stages.
+    pub const ALL: &'static [Self] = &[Self::Idle, Self::Looked, Self::Claimed, Self::Fetched];
+
+    /// The stage of a record's number, if it is one.
+    #[must_use]
+    pub fn from_number(number: u16) -> Option<Self> {
+        Self::ALL.iter().copied().find(|stage| stage.number() == number)
+    }
+
+    /// Its number in a record.
+    #[must_use]
+    pub const fn number(self) -> u16 {
+        self as u16
+    }
+}
+
 /// One desk. Unless it is idle it carries a turn and a place; an idle desk's are not read.
 #[derive(Clone, Copy, Debug, Default, PartialEq, Eq, Hash)]
 #[repr(C)]
 pub struct Desk {
-    /// 0 idle, 1 looked, 2 claimed, 3 fetched.
+    /// The number of a [`Stage`]; any other breaks rule 3.
     pub stage: u16,
     /// The place in the turn's block.
     pub place: u16,

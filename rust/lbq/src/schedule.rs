@@ -1,5 +1,6 @@
 //! Schedules: a header with the sizes, then steps.
 
+use crate::sizes::Sizes;
 use crate::step::Step;
 use std::error::Error;
 use std::fmt;
@@ -8,22 +9,18 @@ use std::iter::FusedIterator;
 /// A schedule that has a right header. Whether its sizes are within their limits, opening says.
 ///
 /// ```
-/// use lbq::{Cut, Schedule, Step};
+/// use lbq::{Cut, Schedule, Sizes, Step};
 ///
 /// let bytes = b"LBQ\x00\x01\x02\x40\x01\x01\x00\x00\x00\x00\x00\x00\x00\x00\x10\x00";
 /// let schedule = Schedule::parse(bytes)?;
-/// assert_eq!((schedule.nb, schedule.ne, schedule.t), (2, 64, 1));
+/// assert_eq!(schedule.sizes, Sizes { blocks: 2, entries: 64, desks: 1 });
 /// assert_eq!(schedule.steps().collect::<Vec<_>>(), [Ok(Step::get()), Err(Cut)]);
 /// # Ok::<(), lbq::ScheduleError>(())
 /// ```
 #[derive(Clone, Copy, Debug, PartialEq, Eq)]
 pub struct Schedule<'b> {
-    /// NB.
-    pub nb: u8,
-    /// NE.
-    pub ne: u8,
-    /// T.
-    pub t: u8,
+    /// The sizes of the line to open.
+    pub sizes: Sizes,
     steps: &'b [u8],
 }
 
@@ -42,7 +39,9 @@ impl<'b> Schedule<'b> {
             return Err(ScheduleError::Long);
         }
         match *bytes {
-            [b'L', b'B', b'Q', 0, 1, nb, ne, t, ref steps @ ..] => Ok(Self { nb, ne, t, steps }),
+            [b'L', b'B', b'Q', 0, 1, nb, ne, t, ref steps @ ..] => {
+                Ok(Self { sizes: Sizes { blocks: nb as u32, entries: ne as u32, desks: t as u32 }, steps })
+            }
             _ => Err(ScheduleError::Header),
         }
     }
@@ -95,8 +94,9 @@ impl Iterator for Steps<'_> {
 impl ExactSizeIterator for Steps<'_> {}
 impl FusedIterator for Steps<'_> {}
 
-/// Bytes that are no schedule. It prints the player's word.
+/// Bytes that are no schedule.
 #[derive(Clone, Copy, Debug, PartialEq, Eq, Hash)]
+#[non_exhaustive]
 pub enum ScheduleError {
     /// LONG: more than 64,808 bytes.
     Long,
@@ -104,24 +104,43 @@ pub enum ScheduleError {
     Header,
 }
 
+impl ScheduleError {
+    /// The player's word.
+    #[must_use]
+    pub const fn word(self) -> &'static str {
+        match self {
+            Self::Long => "LONG",
+            Self::Header => "HEADER",
+        }
+    }
+}
+
 impl fmt::Display for ScheduleError {
     fn fmt(&self, f: &mut fmt::Formatter<'_>) -> fmt::Result {
         f.write_str(match self {
-            Self::Long => "LONG",
-            Self::Header => "HEADER",
+            Self::Long => "LONG: a schedule has at most 64,808 bytes",
+            Self::Header => "HEADER: a schedule begins with LBQ, version 1 and three sizes",
         })
     }
 }
 
 impl Error for ScheduleError {}
 
-/// The end of a schedule whose last step is cut short. It prints the player's word.
+/// The end of a schedule whose last step is cut short.
 #[derive(Clone, Copy, Debug, PartialEq, Eq, Hash)]
 pub struct Cut;
 
+impl Cut {
+    /// The player's word.
+    #[must_use]
+    pub const fn word(self) -> &'static str {
+        "CUT"
+    }
+}
+
 impl fmt::Display for Cut {
     fn fmt(&self, f: &mut fmt::Formatter<'_>) -> fmt::Result {
-        f.write_str("CUT")
+        f.write_str("CUT: the last step has fewer than nine bytes")
     }
 }
 

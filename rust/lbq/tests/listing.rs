@@ -1,11 +1,15 @@
 //! The paper's listing and the edges of a schedule, through the Rust crate.
 
-use lbq::{Answer, Cut, Fault, Line, LineMut, Refusal, Schedule, ScheduleError, Step, Stopped};
+use lbq::{
+    Answer, Cut, Fault, Line, LineMut, Place, Refusal, Rule, Schedule, ScheduleError, Sizes, Stage, Step, Stopped,
+};
 use std::fmt::Write;
 
-const LISTING: &str =
-    "1 FULL 4\n2 SEEN 0\n3 SEEN 0\n4 CLAIMED 0\n5 LOST 0\n6 GOT 1\n7 GOT 2\n8 GOT 4\n9 PUT 5\n10 PUT 6\n\
-    11 FULL 0\n12 GOT 5\n13 BUSY 0\n14 TOOK 3\n15 DONE 0\n16 PUT 7\n17 GOT 6\n18 GOT 7\n19 EMPTY 0\n20 OWNED 0\n";
+const LISTING: &str = include_str!("../../../schedules/listing.out");
+
+fn sizes(blocks: u32, entries: u32, desks: u32) -> Sizes {
+    Sizes { blocks, entries, desks }
+}
 
 fn listing() -> Vec<u8> {
     let steps = [
@@ -39,12 +43,12 @@ fn listing() -> Vec<u8> {
 
 fn played(bytes: &[u8]) -> String {
     let schedule = Schedule::parse(bytes).expect("a right header");
-    let mut line = Line::open(schedule.nb.into(), schedule.ne.into(), schedule.t.into()).expect("fit sizes");
+    let mut line = Line::open(schedule.sizes).expect("fit sizes");
     let mut out = String::new();
     for (number, step) in (1..).zip(schedule) {
         match step {
             Ok(step) => writeln!(out, "{number} {}", line.step(step)),
-            Err(cut) => writeln!(out, "{number} {cut} 0"),
+            Err(cut) => writeln!(out, "{number} {} 0", cut.word()),
         }
         .expect("a string grows");
     }
@@ -54,6 +58,7 @@ fn played(bytes: &[u8]) -> String {
 #[test]
 fn the_listing() {
     let mut bytes = listing();
+    assert_eq!(bytes, include_bytes!("../../../schedules/listing.lbq"));
     assert_eq!(played(&bytes), LISTING);
     bytes.push(1);
     assert_eq!(played(&bytes), format!("{LISTING}21 CUT 0\n"));
@@ -94,17 +99,24 @@ fn bytes_of_a_step() {
 
 #[test]
 fn sizes_outside_the_limits_are_an_error() {
-    for (nb, ne, t) in
-        [(1, 1, 1), (65, 1, 1), (2, 0, 1), (2, 65, 1), (2, 1, 0), (2, 1, 17), (u32::MAX, u32::MAX, u32::MAX)]
-    {
-        assert_eq!(Line::open(nb, ne, t).map(|_| ()), Err(Refusal::Unfit));
+    let (least, most) = (Sizes::LEAST, Sizes::MOST);
+    for unfit in [
+        Sizes { blocks: least.blocks - 1, ..least },
+        Sizes { entries: least.entries - 1, ..least },
+        Sizes { desks: least.desks - 1, ..least },
+        Sizes { blocks: most.blocks + 1, ..most },
+        Sizes { entries: most.entries + 1, ..most },
+        Sizes { desks: most.desks + 1, ..most },
+        sizes(u32::MAX, u32::MAX, u32::MAX),
+    ] {
+        assert_eq!(Line::open(unfit).map(|_| ()), Err(Refusal::Unfit), "{unfit:?}");
     }
-    assert!(Line::open(64, 64, 16).is_ok() && Line::open(2, 1, 1).is_ok());
+    assert!(Line::open(least).is_ok() && Line::open(most).is_ok());
 }
 
 #[test]
 fn numbers_that_no_code_names() -> Result<(), Refusal> {
-    let mut line = Line::open(2, 2, 16)?;
+    let mut line = Line::open(sizes(2, 2, 16))?;
     for desk in [16, 17, 255, 256, u32::MAX] {
         assert_eq!(line.look(desk, 1), Err(Refusal::NoDesk));
         assert_eq!(line.claim(desk), Err(Refusal::NoDesk));
@@ -124,23 +136,56 @@ fn numbers_that_no_code_names() -> Result<(), Refusal> {
 
 #[test]
 fn answers_in_the_papers_words() -> Result<(), Box<dyn std::error::Error>> {
-    let mut line = Line::open(2, 2, 2)?;
+    let mut line = Line::open(sizes(2, 2, 2))?;
     let stopped = line.order(1, 5).unwrap_err();
     assert_eq!(stopped, Stopped { refusal: Refusal::Full, placed: 4 });
-    assert_eq!(stopped.to_string(), "FULL 4");
-    assert_eq!(line.order(1, 0).unwrap_err().to_string(), "RANGE 0");
+    assert_eq!(stopped.to_string(), "FULL: the owner has not left the block to start; labels placed before: 4");
+    assert_eq!(line.step(Step::order(1, 0)).to_string(), "RANGE 0");
     assert_eq!(line.survey()?.lowest, Some(1));
     assert_eq!((line.survey()?.mask, line.survey()?.count), (2, 1));
-    for refusal in Refusal::ALL {
-        assert_eq!(Refusal::from_number(refusal.number()), Some(refusal));
-    }
-    assert_eq!((Refusal::from_number(0), Refusal::from_number(16), Refusal::from_number(u32::MAX)), (None, None, None));
-
     let (mut head, mut table, mut entries) = line.into_parts();
     table[1].claimed = 1;
     let line = Line::over(&mut head, &mut table[..], &mut entries[..]);
-    assert_eq!(line.check(), Err(Fault::Damaged { place: 1, rule: 7 }));
+    assert_eq!(line.check(), Err(Fault::Damaged { place: Place::Block(1), rule: Rule::Finished }));
+    assert_eq!(line.check().unwrap_err().to_string(), "DAMAGED: block 1 breaks rule 7, of finished");
     assert_eq!(line.survey(), Err(Refusal::Damaged));
     assert_eq!(Line::over(head, [], []).check(), Err(Fault::Unfit));
+    Ok(())
+}
+
+#[test]
+fn errors_say_what_is_wrong() {
+    for &refusal in Refusal::ALL {
+        let (word, sentence) = (refusal.word(), refusal.to_string());
+        assert!(sentence.strip_prefix(word).is_some_and(|rest| rest.starts_with(": ")), "{sentence}");
+        assert_eq!(Refusal::from_number(refusal.number()), Some(refusal));
+    }
+    for number in [0, 22, 255, 256, u32::MAX] {
+        assert_eq!(Refusal::from_number(number), None);
+    }
+    assert_eq!(Fault::Unfit.to_string(), Refusal::Unfit.to_string());
+    assert_eq!(ScheduleError::Long.to_string(), "LONG: a schedule has at most 64,808 bytes");
+    assert_eq!(Cut.to_string(), "CUT: the last step has fewer than nine bytes");
+}
+
+#[test]
+fn the_stages_of_a_desk() -> Result<(), Box<dyn std::error::Error>> {
+    let mut line = Line::open(sizes(2, 2, 2))?;
+    line.order(1, 4)?;
+    assert_eq!(line.stage(0), Some(Stage::Idle));
+    line.look(0, 1)?;
+    assert_eq!(line.stage(0), Some(Stage::Looked));
+    line.claim(0)?;
+    assert_eq!(line.stage(0), Some(Stage::Claimed));
+    assert_eq!(line.claim(0), Err(Refusal::Stage));
+    line.fetch(0)?;
+    assert_eq!((line.stage(0), line.stage(1)), (Some(Stage::Fetched), Some(Stage::Idle)));
+    line.finish(0)?;
+    assert_eq!((line.stage(0), line.stage(16), line.stage(u32::MAX)), (Some(Stage::Idle), None, None));
+    let (mut head, table, entries) = line.into_parts();
+    head.desks[1].stage = 4;
+    let line = Line::over(head, table, entries);
+    assert_eq!(line.stage(1), None);
+    assert_eq!(line.check(), Err(Fault::Damaged { place: Place::Head, rule: Rule::Desks }));
     Ok(())
 }

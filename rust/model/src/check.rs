@@ -1,5 +1,5 @@
 //! The check, in one pass over head and table. Whether a line is sound is decided here, with one division; which rule a
-//! damaged line breaks is then asked of [`rules`](crate::rules).
+//! damaged line breaks is then asked of [`rules`].
 
 use crate::records::{
     refusal, Block, Checked, Head, Views, CLAIMED, FETCHED, IDLE, LOOKED, MOST_BLOCKS, MOST_DESKS, MOST_ENTRIES, ROUNDS,

@@ -3,7 +3,7 @@
 //! Nothing here is taken from the library. There are three readings, each for itself:
 //!
 //! - [`book`]: the meaning. A list of labels, a mark on each, K, and the desks with row numbers.
-//! - [`line`]: the steps done in place on the lent memory, with [`check`] before each.
+//! - [`mod@line`]: the steps done in place on the lent memory, with [`check`] before each.
 //! - [`rules`]: the rules of a sound line, sentence by sentence, with no thought of speed.
 //!
 //! [`told`] joins the first two: it writes down the whole memory that a line must have, from the book alone.

@@ -1,5 +1,5 @@
-//! The rules of a sound line, each as its sentence stands in the paper. Slow and plain: a block's current turn is looked
-//! for, and nothing is kept from one question to the next.
+//! The rules of a sound line, each as its sentence stands in the paper. Slow and plain: a block's current turn is
+//! looked for, and nothing is kept from one question to the next.
 
 use crate::records::{Block, Head, CLAIMED, FETCHED, IDLE, LOOKED, ROUNDS};
 

@@ -1,7 +1,8 @@
 //! The whole memory that a line must have after a run from opening, told by its book.
 //!
-//! The book gives all of it but one thing: how many claims were won in a turn that the owner has taken over since. "Claimed
-//! then keeps the threshold", and the book's marks do not say who a row went to. So that number is kept beside it.
+//! The book gives all of it but one thing: how many claims were won in a turn that the owner has taken over since.
+//! "Claimed then keeps the threshold", and the book's marks do not say who a row went to. So that number is kept
+//! beside it.
 
 use crate::book::{Book, Desk};
 use crate::records::{self, Answer, Block, Head, CLAIMED, FETCHED, IDLE, LOOKED, MOST_DESKS};

@@ -32,12 +32,12 @@ use denote.Steps.{owned, nothing}
 use denote.Signature.{plain, shrSliceOf}
 use denote.Triple.Entry.{onEntry}
 use denote.Triple.Spec.{Meets, tripleOf}
-use denote.Triple.Table.{entered}
 use denote.Triple.Walked.{says, needs, Stays, stay-dropped, walkOf, goes-dropped, Walks, ends-at, walked, walk-meets}
 use denote.Exit.{yes}
 use Rattle.line.specs.declared.Block.{Block}
 use Rattle.line.specs.Line.{unused}
 use Rattle.walk.proofs.Again.{at-list}
+use Rattle.walk.proofs.Entered.{proves}
 use Rattle.walk.proofs.Locals.{free}
 use Rattle.table.proofs.Records.{RB, record-val, record-vals, record-tells, bytes-each, record-makes, record-lawful, record-copy}
 use Rattle.table.proofs.record_at.Key.{name}
@@ -87,7 +87,8 @@ module _ {M : Type 1} (𝓤 : URA M) (H : Heap 𝓤) (A : Atoms 𝓤) (W : Given
         move ! (13 ∷ []) $ fsplit ! $ fsplit ! $ move ! (1 ∷ []) $ fsplit ! $ move ! (16 ∷ []) $ split ! $ move ! (3 ∷ 0 ∷ []) $
         looks-slice ! tt RB (Is RB) (shows 𝓤 H A RB) record-vals record-tells (record-copy 𝓤 H A W) ys b o (λ q′.
         elem-out ! RB (Is RB) (shows 𝓤 H A RB) record-vals record-tells q′ ys i unused b o within (λ is.
-        -- [0 table[i]; 1 what it owns; 2 the others; 3 what shuts the slice; six entries of the slice's; local i at 19 − 2i]
+        -- [0 table[i]; 1 what it owns; 2 the others; 3 what shuts the slice; six entries of the slice's; local i at 19
+        -- − 2i]
         assigns ! (of-opd ! (load ! (from ! (hop ! (look ! 11 refl) (stop !))) (look-raw ! 0 refl))) (from ! (stop !))
         (init ! 9 refl (record-lawful 𝓤 H A W .typed d _ is .0)) $
         assigns ! (of-opd ! (load ! (from ! (stop !)) (look ! 9 refl))) (from ! (stop !)) (init ! 19 refl (record-lawful 𝓤 H A W .typed d _ is .0)) $
@@ -116,6 +117,5 @@ module _ {M : Type 1} (𝓤 : URA M) (H : Heap 𝓤) (A : Atoms 𝓤) (W : Given
 pub record-at-spec : {M : Type 1} → statement M
 unfolding code.routine tablesOf
 record-at-spec 𝓤 H 𝓜 𝓖 𝓡 =
-    entered 𝓤 H (tripleOf 𝓤 H (𝓖 .A) f.signature (f.spec 𝓤 H (𝓖 .A) (𝓜 .mem) (𝓡 .run)))
-    (tables 𝓤 H 𝓜 𝓡 code.env .C) (tables 𝓤 H 𝓜 𝓡 code.env .Λ) name code.function (code.unfolded 𝓤 H 𝓜 𝓡)
+    proves 𝓤 H 𝓜 𝓡 code.env (tripleOf 𝓤 H (𝓖 .A) f.signature (f.spec 𝓤 H (𝓖 .A) (𝓜 .mem) (𝓡 .run))) name code.function (code.unfolded 𝓤 H 𝓜 𝓡)
     (meets 𝓤 H (𝓖 .A) (givenOf 𝓤 H 𝓜 𝓖) (𝓜 .mem) (𝓡 .run) (tablesOf 𝓤 H 𝓜 (tables 𝓤 H 𝓜 𝓡 code.env)))

@@ -5,8 +5,9 @@ use Prim.Native.Nat.{ℕ, _<_}
 use native.Mathlib.Omega.{arith}
 use borrow.Author.Needs.{needs}
 use lib.ListN.{getD}
-use Rattle.book.specs.Steps.{DeskStep, idle}
-use Rattle.book.specs.Verdicts.{takes}
+use Rattle.book.specs.declared.DeskStep.{DeskStep}
+use Rattle.book.specs.Steps.{idle}
+use Rattle.book.specs.declared.Verdict.the-variants.{Takes as takes}
 use Rattle.line.specs.declared.Block.{Block}
 use Rattle.line.specs.declared.Head.{Head}
 use Rattle.line.specs.Line.{numbersOf}

@@ -1,7 +1,7 @@
 -- The laws of proofs/Called.antt, at what the check said.
 use mathlib.Core.Path.{_≡_, ap}
 use borrow.Author.Needs.{needs}
-use Rattle.book.specs.Verdicts.{takes}
+use Rattle.book.specs.declared.Verdict.the-variants.{Takes as takes}
 use Rattle.rules.proofs.Walks.{length-of}
 use Rattle.engine.specs.Lent.{givenBack}
 use Rattle.engine.specs.Owning.{verdictOf}

@@ -3,7 +3,7 @@ use Prim.Native.Nat.{_^_, _≤_, _<_}
 use native.Mathlib.Omega.{arith}
 use borrow.Author.Needs.{needs}
 use lib.ListN.{length}
-use Rattle.book.specs.Verdicts.{Verdict}
+use Rattle.book.specs.declared.Verdict.{Verdict}
 use Rattle.line.specs.Survey.{bit, surveys}
 use Rattle.line.proofs.Survey.{bit-le}
 use Rattle.engine.specs.Owning.{verdictOf}
