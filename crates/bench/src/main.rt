@@ -20,12 +20,6 @@ const STEPS: u32 = 1000000;
 
 const NE: u16 = 64;
 
-// The entries of the largest line.
-const ENTRIES: usize = 4096;
-
-// Labels are below this.
-const LABELS: u32 = 1000000;
-
 const DESKS: u16 = 16;
 
 // The largest prime below 2^32.
@@ -81,6 +75,9 @@ fn by_desk(code: u8, d: u8, block: u32) -> Message
         b: 0,
     }
 }
+
+// Labels are below this.
+const LABELS: u32 = 1000000;
 
 // Step i of a cycle: the owner puts five labels and gets three, and the two desks make a round each. A get
 // stands between look and claim, so that some claims are lost to the owner.
@@ -213,6 +210,9 @@ fn say_times(nb: u16, full: u64, empty: u64, sum: u64) {
     );
     io::write_all(STDERR_FILENO, b" ns a step\n");
 }
+
+// The entries of the largest line.
+const ENTRIES: usize = 4096;
 
 // One size: both loops, timed.
 fn measure(nb: u16)

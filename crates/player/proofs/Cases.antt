@@ -7,6 +7,7 @@ use Rattle.book.specs.Steps.{decode}
 use Rattle.book.specs.Verdicts.{admitted, lookable, startable, placeable}
 use Rattle.line.specs.Line as L
 use Rattle.line.specs.Rules.{ofBlocks, inOrder}
+use Rattle.line.specs.Tests as Q
 use Rattle.line.specs.Check as C
 use Rattle.line.specs.Calls as Calls
 use Rattle.schedule.specs.Bytes as B
@@ -24,15 +25,15 @@ unfolding total any all fits isLabel isOrder currentTurn isOwned decode admitted
 shared = tt
 
 desks : Unit {0}
-unfolding L.deskOf L.recordOf L.entryOf L.labelAt L.lookStep L.winnable L.claimStep L.fetchStep L.finishStep L.deskDoes L.deskStep
+unfolding L.deskOf L.recordOf L.entryOf L.labelAt L.lookOf L.wins L.claimOf L.movedBy L.deskDoes L.deskStep
 desks = tt
 
 owner : Unit {0}
-unfolding L.opened L.isBusy L.mayPut L.withLabel L.putStep L.putMany L.orderStep L.reach L.readAt L.getStep L.does
+unfolding L.opened L.mayPut L.roomOf L.withLabel L.putStep L.putMany L.orderStep L.movesOn L.reach L.readAt L.getStep L.does
 owner = tt
 
 check : Unit {0}
-unfolding shared desks owner C.isCurrent C.deskHolds C.noClash C.isZeros C.holds1 C.holds2 C.holds3 C.holds4 C.holds5 C.holds6 C.holds7 C.holds ofBlocks inOrder C.fit C.firstBroken C.check
+unfolding shared desks owner Q.noClash Q.obeys3 C.holds ofBlocks inOrder C.fit C.firstBroken C.check
 check = tt
 
 schedule : Unit {0}
