@@ -23,15 +23,15 @@ use Rattle.line.specs.Agrees.{Lawful}
 use Rattle.line.proofs.Check.{Fit, Says, checked}
 use Rattle.line.proofs.Cells.{blocks-of}
 use Rattle.line.proofs.Guards.{step-does, orders-does}
+use Rattle.line.proofs.Verdicts.{refuses-not}
 use Rattle.line.specs.Rules.{Sound}
-use Rattle.rules.specs.Lent.{lineOf}
+use Rattle.byvalue.specs.Lent.{lineOf}
 use Rattle.rules.specs.Promises.{Checks}
-use Rattle.rules.proofs.Lent.{lent-length}
+use Rattle.byvalue.proofs.Lent.{lent-length}
 use Rattle.rules.proofs.Entries.{lent-checked}
-use Rattle.engine.specs.Lent.{Given, backOf}
-use Rattle.engine.specs.Promises.{Ready}
-use Rattle.engine.proofs.Lent.{refused}
-use Rattle.engine.proofs.Takes.{taken-refused}
+use Rattle.byvalue.specs.GivenBack.{Given, given, backOf}
+use Rattle.byvalue.specs.Ready.{Ready}
+use Rattle.byvalue.proofs.GivenBack.{refused}
 
 module _ (h : Head) (t : List Block) (n : ℕ) (es : List ℕ) where
   abbrev z : Size
@@ -42,20 +42,20 @@ module _ (h : Head) (t : List Block) (n : ℕ) (es : List ℕ) where
 
   -- what a call gives that the check stops, and one that it lets go on to the line with its NB records
   pub record Stops (w : Refusal) : Type 0 where
-    pub step-is : (s : Step) → record { answer = Refused w 0; head = h; table = t; entries = es } ≡ backOf t n (step l s)
-    pub order-is : (a b : ℕ) → record { answer = Refused w 0; head = h; table = t; entries = es } ≡ backOf t n (orders l a b)
+    pub step-is : (s : Step) → given (Refused w 0) h t es ≡ backOf t n (step l s)
+    pub order-is : (a b : ℕ) → given (Refused w 0) h t es ≡ backOf t n (orders l a b)
 
   pub record Goes : Type 0 where
     pub ready : Ready h t es
     pub step-is : (s : Step) (d : Deed) (o : Given Answer) → d ≡ decode s → o ≡ backOf t (h .nb) (does z (lineOf h t (h .nb) es) d) → o ≡ backOf t n (step l s)
     pub order-is : (a b : ℕ) (o : Given Answer) → o ≡ backOf t (h .nb) (orderStep z (lineOf h t (h .nb) es) a b) → o ≡ backOf t n (orders l a b)
 
-  says-sound : (c : Checked) → Says l c → takes ≡ passes c → Fit l × Sound l
+  says-sound : (c : Checked) → Says l c → passes c ≡ takes → Fit l × Sound l
   says-sound sound f e = f
-  says-sound unfit f e = absurd (taken-refused Unfit e)
-  says-sound (broken place rule) f e = absurd (taken-refused Damaged e)
+  says-sound unfit f e = absurd (refuses-not Unfit e)
+  says-sound (broken place rule) f e = absurd (refuses-not Damaged e)
 
-  module _ (e : takes ≡ passes (check l)) (long : length t ≡ 64) (many : length (h .desks) ≡ 16) where
+  module _ (e : passes (check l) ≡ takes) (long : length t ≡ 64) (many : length (h .desks) ≡ 16) where
     lawful : Lawful z l
     lawful = let f = says-sound (check l) (checked l) e in record { size = refl; fits = f .0; many = many; sound = f .1 }
 
@@ -82,4 +82,4 @@ module _ (h : Head) (t : List Block) (n : ℕ) (es : List ℕ) where
     stops w e = record { step-is = λ s. rw (sym verdict ∙ e) (refused h t n es w); order-is = λ a b. rw (sym verdict ∙ e) (refused h t n es w) }
 
     pub goes : length t ≡ 64 → length (h .desks) ≡ 16 → v ≡ takes → Goes
-    goes long many e = on-line (sym e ∙ verdict) long many
+    goes long many e = on-line (sym verdict ∙ e) long many

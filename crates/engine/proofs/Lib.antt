@@ -1,15 +1,8 @@
-pub mod Lent
-pub mod Ready
-pub mod Puts
-pub mod Orders
-pub mod Gets
-pub mod Takes
 pub mod Codes
-pub mod Won
-pub mod Moves
 pub mod Called
+pub mod Filling
+pub mod Openings
 pub mod Looks
 pub mod Mask
-pub mod Opens
 pub mod Surveying
 pub mod Unique

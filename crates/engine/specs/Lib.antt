@@ -1,5 +1,1 @@
-pub mod Lent
 pub mod Promises
-pub mod Opens
-pub mod Owning
-pub mod Stepping

@@ -1,9 +1,9 @@
 // A step and an order, as they are called: the check first, then what the code asks for.
-use crate::Outcome;
-use crate::desks::DeskStep;
-use crate::desks::desk_step;
-use crate::owner;
-use crate::owner::Verdict;
+use book::Deed;
+use book::DeskStep;
+use book::Verdict;
+use byvalue::Outcome;
+use desks::desk_step;
 use line::Block;
 use line::Checked;
 use line::Head;
@@ -11,23 +11,13 @@ use rules::check;
 use words::Answer;
 use words::Refusal;
 ghost use mathlib.Core.Path.{_≡_};
+ghost use Rattle.book.specs.Messages.{raw};
 ghost use Rattle.book.specs.Steps.{decode};
 ghost use Rattle.line.specs.Calls.{passes};
-ghost use Rattle.engine.specs.Promises.{Steps, Orders};
-ghost use Rattle.engine.specs.Owning.{verdictOf};
-ghost use Rattle.engine.specs.Stepping.{deedOf};
-
-// What a code asks for.
-enum Deed {
-    Put(u32),
-    Get,
-    Order(u32, u32),
-    Desk(u8, DeskStep),
-    Unlisted,
-}
+ghost use Rattle.engine.specs.Promises.{GivesStep, GivesOrder};
 
 fn deed_of(code: u8, a: u32, b: u32) -> Deed
-    ensures { λ r. ⌜ deedOf r ≡ decode (record { code = code; a = a; b = b }) ⌝ }
+    ensures { λ r. ⌜ r ≡ decode (raw code a b) ⌝ }
 {
     match code {
         0 => Deed::Put(a),
@@ -43,12 +33,26 @@ fn deed_of(code: u8, a: u32, b: u32) -> Deed
 
 // A sound line passes.
 fn may_pass(c: Checked) -> Verdict
-    ensures { λ r. ⌜ verdictOf r ≡ passes c ⌝ }
+    ensures { λ r. ⌜ r ≡ passes c ⌝ }
 {
     match c {
         Checked::Sound => Verdict::Takes,
         Checked::Unfit => Verdict::Refuses(Refusal::Unfit),
         Checked::Broken(_, _) => Verdict::Refuses(Refusal::Damaged),
+    }
+}
+
+// An order of the labels a to b, as a call of its own.
+pub fn order(h: Head, table: [Block; 64], n: usize, entries: &mut [u32], a: u32, b: u32) -> Outcome
+    ensures { λ r. ⌜ GivesOrder h table n (now (entries .entry)) a b r (now (entries .exit)) ⌝ }
+{
+    match may_pass(check(h, table, n, entries.len())) {
+        Verdict::Takes => owner::order(h, table, entries, a, b),
+        Verdict::Refuses(w) => Outcome {
+            answer: Answer::Refused(w, 0),
+            head: h,
+            table,
+        },
     }
 }
 
@@ -62,7 +66,7 @@ pub fn step(
     a: u32,
     b: u32,
 ) -> Outcome
-    ensures { λ r. ⌜ Steps h table n (now (entries .entry)) (record { code = code; a = a; b = b }) r (now (entries .exit)) ⌝ }
+    ensures { λ r. ⌜ GivesStep h table n (now (entries .entry)) (raw code a b) r (now (entries .exit)) ⌝ }
 {
     match may_pass(check(h, table, n, entries.len())) {
         Verdict::Takes => match deed_of(code, a, b) {
@@ -76,20 +80,6 @@ pub fn step(
                 table,
             },
         },
-        Verdict::Refuses(w) => Outcome {
-            answer: Answer::Refused(w, 0),
-            head: h,
-            table,
-        },
-    }
-}
-
-// An order of the labels a to b, as a call of its own.
-pub fn order(h: Head, table: [Block; 64], n: usize, entries: &mut [u32], a: u32, b: u32) -> Outcome
-    ensures { λ r. ⌜ Orders h table n (now (entries .entry)) a b r (now (entries .exit)) ⌝ }
-{
-    match may_pass(check(h, table, n, entries.len())) {
-        Verdict::Takes => owner::order(h, table, entries, a, b),
         Verdict::Refuses(w) => Outcome {
             answer: Answer::Refused(w, 0),
             head: h,

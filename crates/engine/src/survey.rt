@@ -1,6 +1,6 @@
 // The survey: at which blocks an idle desk's look would be SEEN, as a mask, their number, and the lowest of them.
-use super::desks::may_look;
-use super::owner::Verdict;
+use book::Verdict;
+use desks::may_look;
 use line::Block;
 use line::Checked;
 use line::Findings;
@@ -8,16 +8,20 @@ use line::Head;
 use line::Surveyed;
 use rules::check;
 ghost use mathlib.Core.Path.{_≡_};
-ghost use Rattle.book.specs.Verdicts.{judge};
+ghost use mathlib.Core.Bool.{not};
+ghost use Prim.Native.Nat.{_≤_};
+ghost use Rattle.book.specs.Choice.{_≡ᵇ_};
+ghost use Rattle.book.specs.Sizes.{sized};
+ghost use Rattle.book.specs.Verdicts.{judge, lookable};
 ghost use Rattle.line.specs.Survey.{none};
-ghost use Rattle.engine.specs.Promises.{Surveys};
-ghost use Rattle.engine.specs.Owning.{verdictOf};
+ghost use Rattle.engine.specs.Promises.{GivesSurvey};
 
-// The bit of a block, by the verdict on an idle desk's look at it.
-fn bit(v: Verdict) -> u64
-    ensures { λ r. ⌜ r ≡ judge (verdictOf v) 1 (λ w. 0) ⌝ }
+// The bit of block i, whose record is c: 1 where an idle desk's look at it would be SEEN.
+fn bit(nb: u32, p: u32, k: u32, i: u32, c: Block) -> u64
+    requires { ⌜ 1 ≤ nb ⌝ }
+    ensures { λ r. ⌜ r ≡ judge (lookable (sized nb 0 0) p k i (not (c .claimed ≡ᵇ c .written))) 1 (λ w. 0) ⌝ }
 {
-    match v {
+    match may_look(nb, p, k, i, c) {
         Verdict::Takes => 1,
         Verdict::Refuses(_) => 0,
     }
@@ -28,7 +32,7 @@ fn refused(answer: Surveyed) -> Findings
     ensures { λ r. ⌜ r ≡ none answer ⌝ }
 {
     Findings {
-        answer: answer,
+        answer,
         mask: 0,
         count: 0,
         lowest: 64,
@@ -37,7 +41,7 @@ fn refused(answer: Surveyed) -> Findings
 
 // The survey reads no entry, only how many were lent. Doubling from the top block down puts block i's bit at place i.
 pub fn survey(h: Head, table: [Block; 64], n: usize, m: usize) -> Findings
-    ensures { λ r. ⌜ Surveys h table n m r ⌝ }
+    ensures { λ r. ⌜ GivesSurvey h table n m r ⌝ }
 {
     match check(h, table, n, m) {
         Checked::Unfit => refused(Surveyed::Unfit),
@@ -51,11 +55,11 @@ pub fn survey(h: Head, table: [Block; 64], n: usize, m: usize) -> Findings
             while 0 < i {
                 i = i - 1;
                 let at = i as usize;
-                mask = 2 * mask + bit(may_look(nb, p, k, i, table[at]));
+                mask = 2 * mask + bit(nb, p, k, i, table[at]);
             }
             Findings {
                 answer: Surveyed::Survey,
-                mask: mask,
+                mask,
                 count: u64::count_ones(mask),
                 lowest: u64::trailing_zeros(mask),
             }

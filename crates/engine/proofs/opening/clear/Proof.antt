@@ -3,7 +3,7 @@ use mathlib.Core.List.{List}
 use Prim.Native.Nat.{ℕ, _-_, _≤_}
 use native.Mathlib.Omega.{arith}
 use lib.ListN.{length, set, length-set}
-use Rattle.engine.proofs.Opens.{filled, fill-more, fill-all}
+use Rattle.engine.proofs.Filling.{filled, fill-more, fill-all}
 use Rattle.engine.proofs.opening.clear.Statement.{statement}
 use Rattle.engine.proofs.opening.clear.Tie as tie
 

@@ -1,0 +1,4 @@
+pub mod Lent
+pub mod GivenBack
+pub mod Ready
+pub mod Standing

@@ -1,0 +1,4 @@
+pub mod Cells
+pub mod Stages
+pub mod Won
+pub mod Moves

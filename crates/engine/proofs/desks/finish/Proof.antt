@@ -1,7 +1,0 @@
-use native.Mathlib.Numerals.{add-one}
-use borrow.Author.Needs.{needs}
-use Rattle.engine.proofs.desks.finish.Statement.{statement}
-use Rattle.engine.proofs.desks.finish.Tie as tie
-
-pub finish-spec : {M : Type 1} → statement M
-finish-spec = tie.close (tie.spec (λ c. search needs) (λ c κs. search needs) (λ c. rw (c .idle .ensures, add-one)))
