@@ -5,8 +5,8 @@
 // output: for each size a checksum of the answers, and how many of them were refusals. The CPU times
 // go to standard error: run target/bin/bench, or read target/log/bench.stderr. They mean something
 // only where the program runs without an emulator.
-use engine::opening::no_head;
-use engine::opening::no_table;
+use byvalue::no_head;
+use byvalue::no_table;
 use engine::opening::open;
 use engine::step::step;
 use libc::STDERR_FILENO;

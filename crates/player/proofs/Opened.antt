@@ -24,13 +24,13 @@ use Rattle.line.proofs.Cells.{Valid, valid, valid-of, blocks-of}
 use Rattle.line.proofs.Runs.{sound-out}
 use Rattle.line.proofs.Sound.{opened-lawful}
 use Rattle.line.specs.Demands.{SoundOut}
-use Rattle.engine.specs.declared.Outcome.{Outcome as OutcomeByValue}
-use Rattle.rules.specs.Lent.{lentTable, lineOf}
-use Rattle.engine.specs.Lent.{putBack, Given}
-use Rattle.engine.specs.declared.opening.Opened.{Opened as OpenedByValue}
-use Rattle.engine.specs.Opens.{begun, began, Opens}
-use Rattle.engine.specs.Promises.{Steps}
-use Rattle.rules.proofs.Lent.{lent-length}
+use Rattle.byvalue.specs.declared.Outcome.{Outcome as OutcomeByValue}
+use Rattle.byvalue.specs.Lent.{lentTable, lineOf}
+use Rattle.byvalue.specs.GivenBack.{putBack, Given}
+use Rattle.byvalue.specs.declared.OpeningOutcome.{OpeningOutcome}
+use Rattle.engine.specs.Promises.{GivesOpening, GivesStep}
+use Rattle.byvalue.specs.GivenBack.{begun, began}
+use Rattle.byvalue.proofs.Lent.{lent-length}
 use Rattle.rules.proofs.Records.{product}
 use Rattle.printing.specs.Writes.{Writes}
 use Rattle.player.specs.Parts.{storeEntries, entriesLent, Ready, Playable}
@@ -51,7 +51,7 @@ module _ (z : Size) (h : Head) (t : List Block) (n : ℕ) (es : List ℕ) (w : L
   unfolding SoundOut
   step-sound = sound-out z (lineOf h t n es) s w
 
-  pub step-line : (r : OutcomeByValue) (fs : List ℕ) → n ≡ z .nb → Steps h t n es s r fs → says (lineOf (r .head) (r .table) n fs) (r .answer) ≡ o
+  pub step-line : (r : OutcomeByValue) (fs : List ℕ) → n ≡ z .nb → GivesStep h t n es s r fs → says (lineOf (r .head) (r .table) n fs) (r .answer) ≡ o
   step-line r fs e p =
       let v = valid-of z (o .line) step-sound in
       let back = lent-back t (o .line .table) n (omega arith) (blocks-of z (o .line) step-sound ∙ sym e) in
@@ -83,7 +83,7 @@ module _ (z : Size) where
     unfolding opens
     opens-by = rw fit-sized refl
 
-    module _ (r : OpenedByValue) (fs : List ℕ) (p : Opens h t (z .nb) es z r fs) where
+    module _ (r : OpeningOutcome) (fs : List ℕ) (p : GivesOpening h t (z .nb) es z r fs) where
       -- what opening gives where the call comes to o
       gives : (o : Opened) → opens (lineOf h t (z .nb) es) z ≡ o → begun r fs ≡ began t (z .nb) o
       gives o e = p ∙ ap (began t (z .nb)) e

@@ -18,8 +18,8 @@ use Rattle.line.specs.declared.Findings.{Findings}
 use Rattle.line.specs.Line.{Line, Outcome, Spot, sizeOf, refuse, lookStep, deskDoes, deskStep}
 use Rattle.line.specs.Check.{check}
 use Rattle.line.specs.Survey.{isSeen, seenFrom, views, surveys, survey}
-use Rattle.rules.specs.Lent.{lineOf}
-use Rattle.engine.specs.Promises.{Surveys}
+use Rattle.byvalue.specs.Lent.{lineOf}
+use Rattle.engine.specs.Promises.{GivesSurvey}
 use Rattle.rules.proofs.Entries.{lent-checked}
 
 -- one verdict on two lines: the same refusal, or what each answers
@@ -50,7 +50,7 @@ module _ (h : Head) (t : List Block) (n : ℕ) (es es′ : List ℕ) where
   surveys-unread (Broken place rule) = refl
 
 -- what the survey promises of any m entries holds of the m that were lent
-pub lent-surveyed : (h : Head) (t : List Block) (n : ℕ) (es : List ℕ) (r : Findings) → Surveys h t n (length es) r → r ≡ survey (lineOf h t n es)
+pub lent-surveyed : (h : Head) (t : List Block) (n : ℕ) (es : List ℕ) (r : Findings) → GivesSurvey h t n (length es) r → r ≡ survey (lineOf h t n es)
 unfolding survey
 lent-surveyed h t n es r p =
     let fs : List ℕ = replicate (length es) 0 in

@@ -14,7 +14,7 @@ use Rattle.line.specs.declared.Head.{Head}
 use Rattle.line.specs.Line.{sizeOf}
 use Rattle.line.specs.Rules.{Rule, rule1, rule2, rule3, rule4, rule5, rule6, rule7, ruleNumber, RuleAt, inOrder}
 use Rattle.line.specs.Check.{fit, holds, firstBroken, check}
-use Rattle.rules.specs.Lent.{lentTable, lineOf}
+use Rattle.byvalue.specs.Lent.{lentTable, lineOf}
 use Rattle.rules.specs.Promises.{Checks}
 
 module _ (h : Head) (t : List Block) (n : ℕ) (es es′ : List ℕ) where

@@ -13,7 +13,7 @@ use Rattle.line.specs.declared.Head.{Head}
 use Rattle.line.specs.Line.{Line, sizeOf}
 use Rattle.line.specs.Rules.{Rule, rule1, rule2, rule3, rule4, rule5, rule6, rule7, ruleNumber, RuleAt, ask, ofBlocks, inOrder}
 use Rattle.line.specs.Check.{fit, holds, firstBroken, check}
-use Rattle.rules.specs.Lent.{lentTable, lineOf}
+use Rattle.byvalue.specs.Lent.{lentTable, lineOf}
 use Rattle.ring.specs.Ring.{Ring}
 use Rattle.line.specs.Tests.{fitting}
 use Rattle.rules.proofs.Lengths.{fit-by, sized}

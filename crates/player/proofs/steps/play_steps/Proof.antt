@@ -8,7 +8,7 @@ use borrow.Author.Needs.{needs}
 use lib.ListN.{length}
 use Rattle.line.specs.Line.{sizeOf}
 use Rattle.line.specs.Agrees.{Lawful}
-use Rattle.rules.specs.Lent.{lineOf}
+use Rattle.byvalue.specs.Lent.{lineOf}
 use Rattle.schedule.specs.Bytes.{wholeSteps}
 use Rattle.printing.specs.Text.{numbersBelow}
 use Rattle.printing.specs.Writes.{lineMost}
