@@ -18,7 +18,7 @@ use Rattle.book.specs.Steps.{Step, DeskStep, Deed, put, get, order, desk
 use Rattle.book.specs.Book.{Row, Book, Outcome, refuse, rowAt, deskAt, withDesk, append, markGone, putTurn, rowOf, first, waits, mayPut, putStep, putMany, orderStep, readTurn}
 use Rattle.book.specs.Book.{getAt, getStep, winnable, deskStep, does, step, opened, answers, after, leaves}
 use Rattle.book.specs.Counts.{count, placed, got, took, unfetchedBy, isRow, waitsBy, handed}
-use Rattle.book.specs.Demands.{Counting, Placed, NeverTwice}
+use Rattle.book.specs.Demands.{Counting, Placed, RowsKept, NeverTwice}
 use Rattle.book.proofs.Choice.{by-test, by-verdict, cases, T→true, not→false, and-first, and-second, neq-test, eqb-same}
 use Rattle.book.proofs.Total.{total-append, total-set, total-cong, total-replicate, replicate-at}
 use Rattle.book.proofs.DeskKinds.{Free, desk-kind}
@@ -289,8 +289,12 @@ pub placed-rows : Placed
 unfolding Placed opened
 placed-rows z ss = omega (arith, (opened-kept z ss) .grown)
 
+pub rows-kept : RowsKept
+unfolding RowsKept opened only
+rows-kept z ss n = omega (arith, (opened-kept z ss) .tallied (only n), total-replicate (unfetchedBy (isRow n)) (z .t) idle refl)
+
 pub never-twice : NeverTwice
-unfolding NeverTwice opened only
+unfolding NeverTwice RowsKept
 never-twice z ss n =
     let most = by-test {A = ℕ} (λ m. m ≤ 1) ((rowAt ((after z (opened z) ss) .rows) n) .gone) {x = 1} {y = 0} (λ _. omega arith) (λ _. omega arith) in
-    omega (arith, (opened-kept z ss) .tallied (only n), total-replicate (unfetchedBy (isRow n)) (z .t) idle refl)
+    omega (arith, rows-kept z ss n)

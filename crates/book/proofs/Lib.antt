@@ -10,6 +10,7 @@ pub mod Fronts
 pub mod Rising
 pub mod Order
 pub mod Labels
+pub mod Kept
 pub mod FirstOut
 pub mod Settling
 pub mod Emptying

@@ -2,12 +2,14 @@
 -- proofs/ has a proof of each, under the same name in small letters.
 use mathlib.Core.Path.{_≡_}
 use mathlib.Core.List.{List, map}
-use Prim.Native.Nat.{ℕ, _+_, _≤_}
+use Prim.Native.Nat.{ℕ, _+_, _≤_, _<_}
 use lib.ListN.{length}
+use Rattle.book.specs.Choice.{if_then_else_}
 use Rattle.book.specs.Sizes.{Size}
-use Rattle.book.specs.Steps.{Step}
-use Rattle.book.specs.Book.{rowAt, opened, answers, after, leaves}
-use Rattle.book.specs.Counts.{placed, got, took, won, lost, unfetched, waiting, handed, times, bound}
+use Rattle.book.specs.Steps.{Step, Hold, holding}
+use Rattle.book.specs.Book.{rowAt, deskAt, opened, answers, after, leaves}
+use Rattle.book.specs.Counts.{placed, got, took, won, lost, unfetched, timesHeld, waiting, handed, times, timesUnfetched, timesWaiting, bound}
+use Rattle.book.specs.Order.{placedLabels}
 
 -- labels placed = got + fetched + claimed but unfetched + waiting
 unfoldable pub Counting : Type 0
@@ -24,6 +26,29 @@ Placed = (z : Size) (ss : List Step) → length ((after z (opened z) ss) .rows) 
 -- no row's label leaves twice
 unfoldable pub NeverTwice : Type 0
 NeverTwice = (z : Size) (ss : List Step) (n : ℕ) → times n (leaves z (opened z) ss) ≤ 1
+
+-- a row that is gone has left, once, or one desk has claimed it and not fetched; a row that waits, or is not placed, neither
+unfoldable pub RowsKept : Type 0
+RowsKept =
+    (z : Size) (ss : List Step) (n : ℕ)
+    → let b = after z (opened z) ss in
+    times n (leaves z (opened z) ss) + timesHeld n b ≡ (if (rowAt (b .rows) n) .gone then 1 else 0)
+
+-- what leaves is a row of the book, and so is what a desk has claimed or fetched and not finished
+unfoldable pub RowsOfBook : Type 0
+RowsOfBook =
+    (z : Size) (ss : List Step)
+    → let b = after z (opened z) ss in
+    ((n : ℕ) → 0 < times n (leaves z (opened z) ss) → n < length (b .rows))
+    × ((d : ℕ) (h : Hold ℕ) → deskAt b d ≡ holding h → h .at < length (b .rows))
+
+-- the labels got and fetched, claimed but unfetched, and waiting are the labels placed: each label as often
+unfoldable pub LabelsKept : Type 0
+LabelsKept =
+    (z : Size) (ss : List Step) (a : ℕ)
+    → let l = answers z (opened z) ss in
+    let b = after z (opened z) ss in
+    times a (handed l) + timesUnfetched a b + timesWaiting a b ≡ times a (placedLabels ss l)
 
 -- and the labels that the answers hand over are those of the rows that leave, in order
 unfoldable pub Handed : Type 0

@@ -15,7 +15,9 @@ use Rattle.book.specs.declared.Deed.the-variants.{Get as get, Order as order, D
 use Rattle.book.specs.Steps.{Step, idle, decode}
 use Rattle.book.specs.declared.Verdict.the-variants.{Refuses as refuses}
 use Rattle.book.specs.Book as B
-use Rattle.book.specs.Counts.{placed, got, took, won, lost, unfetched, waiting, handed, times, bound}
+use Rattle.book.specs.Choice.{if_then_else_}
+use Rattle.book.specs.Counts.{placed, got, took, won, lost, unfetched, timesHeld, waiting, handed, times, timesUnfetched, timesWaiting, bound}
+use Rattle.book.specs.Order.{placedLabels}
 use Rattle.line.specs.Line.{Line, Outcome, sizeOf, deskAt, getAt, withDesk, withHead, recordOf, deskStep, mayPut, opened}
 use Rattle.line.specs.Rules.{Sound, RuleAt, ruleNumber, inOrder, Obeys}
 use Rattle.line.specs.Check.{sound, unfit, broken, fit, check}
@@ -159,6 +161,18 @@ LineHanded =
     (z : Size) (ss : List Step) → T (fits z)
     → let rows = B.leaves z (B.opened z) ss in
     (handed (answers (opened z) ss) ≡ map (λ n. (B.rowAt ((B.after z (B.opened z) ss) .rows) n) .label) rows) × ((n : ℕ) → times n rows ≤ 1)
+
+-- and no label is lost or invented: a row that is gone left once, or one desk has claimed it and not fetched; no other row did; what
+-- left are rows of labels placed; and the labels got and fetched, claimed but unfetched, and waiting are those placed
+unfoldable pub LineRowsKept : Type 0
+LineRowsKept =
+    (z : Size) (ss : List Step) → T (fits z)
+    → let l = answers (opened z) ss in
+    let b = B.after z (B.opened z) ss in
+    let rows = B.leaves z (B.opened z) ss in
+    ((n : ℕ) → times n rows + timesHeld n b ≡ (if (B.rowAt (b .rows) n) .gone then 1 else 0))
+    × ((n : ℕ) → 0 < times n rows → n < placed l)
+    × ((a : ℕ) → times a (handed l) + timesUnfetched a b + timesWaiting a b ≡ times a (placedLabels ss l))
 
 -- ---- the survey
 
