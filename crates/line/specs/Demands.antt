@@ -5,6 +5,7 @@ use mathlib.Core.Logic.{_≢_, _↔_}
 use mathlib.Core.List.{List, _∷_, _++_, map}
 use Prim.Native.Nat.{ℕ, zero, suc, _+_, _-_, _/_, _%_, _^_, _≤_, _<_}
 use lib.Dec.{T}
+use lib.ListN.{length}
 use Rattle.words.specs.declared.Answer.the-variants.{Whole, Seen, Refused}
 use Rattle.words.specs.declared.Refusal.{Refusal}
 use Rattle.words.specs.declared.Refusal.the-variants.{Unfit, Damaged, Lost, Range, Empty}
@@ -50,6 +51,20 @@ pub record FirstBroken (l : Line) (place rule : ℕ) : Type 0 where
 
 unfoldable pub CheckBroken : Type 0
 CheckBroken = (l : Line) (place rule : ℕ) → check l ≡ broken place rule → Fit l × FirstBroken l place rule
+
+-- and where a rule is the first broken, the check names it and its place
+unfoldable pub CheckNames : Type 0
+CheckNames = (l : Line) (place rule : ℕ) → Fit l → FirstBroken l place rule → check l ≡ broken place rule
+
+-- entries are not checked: whatever as many entries hold, check and survey are the same
+abbrev pub withEntries : Line → List ℕ → Line
+withEntries l es = record { head = l .head; table = l .table; entries = es }
+
+unfoldable pub CheckUnread : Type 0
+CheckUnread = (l : Line) (es : List ℕ) → length es ≡ length (l .entries) → check (withEntries l es) ≡ check l
+
+unfoldable pub SurveyUnread : Type 0
+SurveyUnread = (l : Line) (es : List ℕ) → length es ≡ length (l .entries) → survey (withEntries l es) ≡ survey l
 
 -- ---- demand 1: what is refused before the code is looked at
 
