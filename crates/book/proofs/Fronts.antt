@@ -18,6 +18,7 @@ use Rattle.book.specs.Verdicts.{Verdict, judge, startable, placeable}
 use Rattle.book.specs.Steps.{Step, DeskStep, Deed, put, get, order, desk, unlisted, decode, Desk, idle, looked, holding, claimedAt, withFetched}
 use Rattle.book.specs.Book.{Row, Book, Outcome, rowAt, deskAt, append, markGone, goneBefore, putTurn, rowOf, rowsOf, written, first, waits, isBusy, mayPut, putStep, putMany, orderStep, readTurn}
 use Rattle.book.specs.Book.{getAt, getStep, deskStep, does, step, opened, after}
+use Rattle.book.specs.Demands.{GetMoves}
 use Rattle.book.proofs.Choice.{by-test, cases, T→true, true-not-false, neq-test}
 use Rattle.book.proofs.Total.{replicate-at}
 use Rattle.book.proofs.Turns.{div-mono, div-next}
@@ -332,3 +333,18 @@ module _ (z : Size) where
     past = λ n h. absurd (omega arith);
     seen = λ d. rw (replicate-at {A = Desk ℕ} (z .t) d idle) tt;
   }
+
+-- ---- one get moves at most NB - 1 blocks
+
+get-turn : (z : Size) (b : Book) (t : ℕ) → (getAt z b t) .book .k ≡ t
+unfolding getAt
+get-turn z b t = by-test (λ (o : Outcome). o .book .k ≡ t) (waits z (b .rows) t) (λ _. refl) (λ _. refl)
+
+pub get-moves : GetMoves
+unfolding GetMoves step does getStep
+get-moves z ss s e =
+    let b = after z (opened z) ss in
+    let f = (run-grows z (opened z) ss (opened-fronts z)) .fronts in
+    let n = putTurn z (b .rows) - b .k in
+    rw (e, get-turn z b (readTurn z n (b .rows) (b .k)))
+    (read-from z n (b .rows) (b .k), omega (arith, read-to z n (b .rows) (b .k), f .near))

@@ -1,13 +1,16 @@
 -- What holds of every run of the book from opening, for every size and every list of steps: any codes, any numbers.
 -- proofs/ has a proof of each, under the same name in small letters.
 use mathlib.Core.Path.{_≡_}
+use mathlib.Core.Logic.{_≢_}
+use mathlib.Core.Bool.{not}
 use mathlib.Core.List.{List, map}
-use Prim.Native.Nat.{ℕ, _+_, _≤_, _<_}
+use Prim.Native.Nat.{ℕ, _+_, _-_, _≤_, _<_}
+use lib.Dec.{T}
 use lib.ListN.{length}
 use Rattle.book.specs.Choice.{if_then_else_}
-use Rattle.book.specs.Sizes.{Size}
-use Rattle.book.specs.Steps.{Step, Hold, holding}
-use Rattle.book.specs.Book.{rowAt, deskAt, opened, answers, after, leaves}
+use Rattle.book.specs.Sizes.{Size, blockOf, isUsed, currentTurn}
+use Rattle.book.specs.Steps.{Step, get, decode, Hold, holding}
+use Rattle.book.specs.Book.{rowAt, deskAt, step, opened, answers, after, leaves}
 use Rattle.book.specs.Counts.{placed, got, took, won, lost, unfetched, timesHeld, waiting, handed, times, timesUnfetched, timesWaiting, bound}
 use Rattle.book.specs.Order.{placedLabels}
 
@@ -59,3 +62,26 @@ Handed =
 -- demand 3
 unfoldable pub Bounded : Type 0
 Bounded = (z : Size) (ss : List Step) → let l = answers z (opened z) ss in lost l ≤ bound z (won l) (placed l)
+
+-- ---- turns
+
+-- one get moves at most NB - 1 blocks
+unfoldable pub GetMoves : Type 0
+GetMoves =
+    (z : Size) (ss : List Step) (s : Step) → decode s ≡ get
+    → let b = after z (opened z) ss in
+    let k = (step z b s) .book .k in
+    (b .k ≤ k) × (k - b .k ≤ z .nb - 1)
+
+-- turn t is the largest turn up to P that stands in block i
+pub record IsLargest (z : Size) (p i t : ℕ) : Type 0 where
+  pub stands : blockOf z t ≡ i
+  pub low : t ≤ p
+  pub largest : (u : ℕ) → u ≤ p → blockOf z u ≡ i → u ≤ t
+
+-- a block's current turn is that; a block with none is unused
+unfoldable pub CurrentTurn : Type 0
+CurrentTurn =
+    (z : Size) (p i : ℕ) → i < z .nb
+    → (T (isUsed z p i) → IsLargest z p i (currentTurn z p i))
+    × (T (not (isUsed z p i)) → (t : ℕ) → t ≤ p → blockOf z t ≢ i)

@@ -141,6 +141,11 @@ EmptyLeaves =
     → let p = l .head .p in
     (step l s) .line ≡ withHead l (getAt (l .head) (record { turn = p; place = (recordOf (sizeOf (l .head)) (l .table) p) .written }))
 
+-- ---- one get moves at most NB - 1 blocks
+
+unfoldable pub LineGetMoves : Type 0
+LineGetMoves = (l : Line) (s : Step) → decode s ≡ get → let k = (step l s) .line .head .k in (l .head .k ≤ k) × (k - l .head .k ≤ l .head .nb - 1)
+
 -- ---- sound in, sound out
 
 unfoldable pub SoundOut : Type 0
