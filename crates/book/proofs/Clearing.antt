@@ -39,7 +39,7 @@ module _ (z : Size) where
   after-append b [] ts = refl
   after-append b (s ∷ ss) ts = after-append ((step z b s) .book) ss ts
 
-  answers-append : (b : Book) (ss ts : List Step) → answers z b (ss ++ ts) ≡ answers z b ss ++ answers z (after z b ss) ts
+  pub answers-append : (b : Book) (ss ts : List Step) → answers z b (ss ++ ts) ≡ answers z b ss ++ answers z (after z b ss) ts
   unfolding answers after
   answers-append b [] ts = refl
   answers-append b (s ∷ ss) ts = ap (λ (l : List Answer). (step z b s) .answer ∷ l) (answers-append ((step z b s) .book) ss ts)

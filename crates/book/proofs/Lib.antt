@@ -15,4 +15,5 @@ pub mod FirstOut
 pub mod Settling
 pub mod Emptying
 pub mod Clearing
+pub mod Worn
 pub mod Cases
