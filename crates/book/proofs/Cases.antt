@@ -11,7 +11,7 @@ use Rattle.book.specs.Book.{Book}
 use Rattle.book.specs.Book as B
 use Rattle.book.specs.Messages.{put}
 use Rattle.book.specs.Counts.{bound}
-use Rattle.book.specs.Cases.{Case, no, marked, nearlyRight, letPass, deskSteps, puts, limits, cases, Hold, CasesHold}
+use Rattle.book.specs.Cases.{Case, no, fresh, marked, nearlyRight, letPass, deskSteps, puts, limits, cases, Hold, CasesHold}
 use Rattle.book.specs.Decoding.{Decoding}
 use Rattle.book.specs.WornCases.{byTurns, putAndGet, WornRun, WornCases}
 use Rattle.book.specs.BoundCases.{boundCases, BoundCases}
@@ -31,8 +31,8 @@ unfolding
 runs = tt
 
 marked-hold : Hold marked
-unfolding marked runs
-marked-hold = (refl, (refl, (refl, (refl, (refl, (refl, (refl, (refl, (refl, (refl, (refl, (refl, tt))))))))))))
+unfolding marked fresh runs total bound
+marked-hold = (refl, (refl, (refl, (refl, (refl, (refl, (refl, (refl, (refl, (refl, ((refl, refl), (refl, tt))))))))))))
 
 nearly-right-hold : Hold nearlyRight
 unfolding nearlyRight runs
