@@ -16,4 +16,5 @@ pub mod Settling
 pub mod Emptying
 pub mod Clearing
 pub mod Worn
+pub mod Fresh
 pub mod Cases

@@ -344,7 +344,13 @@ OpeningCases =
     ∷ leaves (opened (size 2 65 1)) (size 2 65 1)
     ∷ leaves fresh (size 2 2 0)
     ∷ leaves fresh (size 2 2 17)
+    -- NB 64 opens
+    ∷ blanks (opened (size 64 1 1)) (size 64 1 1) (opened (size 64 1 1))
     ∷ [])
+
+-- NB 1 UNFIT, and NB 65 UNFIT, whatever else is asked for and lent
+unfoldable pub OpeningUnfit : Type 0
+OpeningUnfit = (l : Line) (ne t : ℕ) → OpensTo (leaves l (size 1 ne t) ∷ leaves l (size 65 ne t) ∷ [])
 
 -- ---- a desk that a step makes idle, and each of opening's, is written as zeros
 
