@@ -4,7 +4,7 @@
 --   lost + dead + T × K(before) ≤ dead(before) + (T - 1) × won + T × K,
 -- and by adding up for each run, with K ≤ P and exactly T desks throughout.
 use mathlib.Core.Path.{_≡_, refl, ap, _∙_}
-use mathlib.Core.Bool.{not, _&&_}
+use mathlib.Core.Bool.{not}
 use mathlib.Core.List.{List, [], _∷_}
 use Prim.Native.Nat.{ℕ, zero, suc, _+_, _-_, _*_, _/_, _≤_, _<_, zero-le}
 use native.Mathlib.Nat.{mul-le-mul-left, le-trans}
@@ -21,7 +21,7 @@ use Rattle.book.specs.Book.{Row, Book, Outcome, says, rowAt, deskAt, wit
 use Rattle.book.specs.Book.{readTurn, getAt, getStep, winnable, deskStep, does, step, opened, answers, after}
 use Rattle.book.specs.Counts.{count, won, lost, bound}
 use Rattle.book.specs.Demands.{Placed, Bounded}
-use Rattle.book.proofs.Choice.{by-test, cases, T→true, not→false, and-first, and-second, lt→true}
+use Rattle.book.proofs.Choice.{by-test, cases, T→true, not→false, and-second, lt→true}
 use Rattle.book.proofs.Total.{total-set, total-mono, total-le, total-below, total-replicate}
 use Rattle.book.proofs.Turns.{div-mono}
 use Rattle.book.proofs.DeskKinds.{isLost, desk-kind}

@@ -3,7 +3,7 @@
 -- tally of proofs/Counting.antt.
 use mathlib.Core.Path.{_≡_, refl, sym, ap, _∙_}
 use mathlib.Core.Logic.{_⊎_, inl, inr, ⊎-elim}
-use mathlib.Core.Bool.{Bool, false, not, _&&_}
+use mathlib.Core.Bool.{false, not, _&&_}
 use mathlib.Core.List.{List, [], _∷_, _++_, append-assoc}
 use Prim.Native.Nat.{ℕ, suc, _+_, _-_, _*_, _≤_, _<_}
 use native.Mathlib.Nat.{le-refl}
@@ -13,8 +13,8 @@ use lib.ListN.{length, getD, replicate, length-append, length-replicate, List·g
 use Rattle.words.specs.declared.Answer.{Answer}
 use Rattle.words.specs.declared.Answer.the-variants.{Put, Refused}
 use Rattle.words.specs.declared.Refusal.the-variants.{Worn, Busy, Empty}
-use Rattle.book.specs.Choice.{if_then_else_, _<ᵇ_, _≤ᵇ_}
-use Rattle.book.specs.Total.{total, any}
+use Rattle.book.specs.Choice.{_<ᵇ_, _≤ᵇ_}
+use Rattle.book.specs.Total.{total}
 use Rattle.book.specs.Sizes.{Size, within, fits, isLabel, roundOf}
 use Rattle.book.specs.Steps.{Step, decode, Desk, idle, looked, holding}
 use Rattle.book.specs.Verdicts.{Verdict, judge, startable, placeable}
@@ -22,8 +22,8 @@ use Rattle.book.specs.Book.{Row, Book, says, refuse, rowAt, deskAt, appe
 use Rattle.book.specs.Counts.{unfetchedBy, unfetched, timesHeld, waitsBy, waiting, times}
 use Rattle.book.specs.Messages.{get}
 use Rattle.book.specs.Clearing.{settling, emptying, clearing, IsPlaced, IsWorn, IsBusy, NothingStuck, OnlyBusy}
-use Rattle.book.proofs.Choice.{by-test, cases, not→false, and-first, and-second, eqb-same}
-use Rattle.book.proofs.Total.{total-none, total-zero, total-replicate, any-at}
+use Rattle.book.proofs.Choice.{by-test, cases, and-first, and-second}
+use Rattle.book.proofs.Total.{total-none, total-replicate, any-at}
 use Rattle.book.proofs.Turns.{div-next}
 use Rattle.book.proofs.Counting.{Fair, one, only, held, free-unfetched, run-kept, opened-kept}
 use Rattle.book.proofs.DeskKinds.{Free}

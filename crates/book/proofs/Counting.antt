@@ -4,23 +4,23 @@
 -- Both are one law, `tallied`, of two tallies. `Kept` says what a step keeps, the labels of proofs/Handed.antt among it:
 -- one lemma for each kind of change, one for each step, then every run.
 use mathlib.Core.Path.{_≡_, refl, sym, ap, ap₂, _∙_}
-use mathlib.Core.Bool.{Bool, true, false, not, _&&_}
+use mathlib.Core.Bool.{Bool, true, false, not}
 use mathlib.Core.List.{List, [], _∷_, _++_, map, map-append}
-use Prim.Native.Nat.{ℕ, zero, suc, _+_, _-_, _*_, _/_, _≤_, _<_}
+use Prim.Native.Nat.{ℕ, zero, suc, _+_, _-_, _/_, _≤_, _<_}
 use native.Mathlib.Omega.{arith}
 use lib.Dec.{T, eqb, eqb→eq}
 use lib.ListN.{length, getD, set, length-replicate, length-set, length-append, List·getD-append}
 use lib.Seq.{getD-set-same, getD-set-other}
-use Rattle.book.specs.Choice.{if_then_else_, _<ᵇ_, _≤ᵇ_, _≡ᵇ_}
+use Rattle.book.specs.Choice.{if_then_else_, _<ᵇ_}
 use Rattle.book.specs.Total.{total}
-use Rattle.book.specs.Sizes.{Size, isOrder, isUsed, isOwned, currentTurn}
+use Rattle.book.specs.Sizes.{Size, isOrder}
 use Rattle.book.specs.Steps.{Step, DeskStep, Deed, put, get, order, desk, unlisted, decode, Hold, Desk, idle, looked, holding, claimedAt, withFetched, isFetched}
-use Rattle.book.specs.Book.{Row, Book, Outcome, refuse, rowAt, deskAt, withDesk, append, markGone, putTurn, rowOf, first, waits, mayPut, putStep, putMany, orderStep, readTurn}
+use Rattle.book.specs.Book.{Row, Book, Outcome, rowAt, deskAt, withDesk, append, markGone, putTurn, waits, mayPut, putStep, putMany, orderStep, readTurn}
 use Rattle.book.specs.Book.{getAt, getStep, winnable, deskStep, does, step, opened, answers, after, leaves}
 use Rattle.book.specs.Counts.{count, placed, got, took, unfetchedBy, isRow, waitsBy, handed}
 use Rattle.book.specs.Demands.{Counting, Placed, RowsKept, NeverTwice}
-use Rattle.book.proofs.Choice.{by-test, by-verdict, cases, T→true, not→false, and-first, and-second, neq-test, eqb-same}
-use Rattle.book.proofs.Total.{total-append, total-set, total-cong, total-replicate, replicate-at}
+use Rattle.book.proofs.Choice.{by-test, by-verdict, cases, T→true, not→false, and-first, neq-test, eqb-same}
+use Rattle.book.proofs.Total.{total-append, total-set, total-replicate, replicate-at}
 use Rattle.book.proofs.DeskKinds.{Free, desk-kind}
 use Rattle.book.proofs.Rows.{first-waits, first-in, row-append, mark-length, mark-other, mark-same, mark-label}
 

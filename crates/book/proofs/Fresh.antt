@@ -1,23 +1,22 @@
 -- The marked cases of one step on a fresh book, at every size that fits: no row waits, K and P are 0, and every desk is idle.
-use mathlib.Core.Path.{_≡_, refl, ap, _∙_}
+use mathlib.Core.Path.{_≡_, refl, ap}
 use mathlib.Core.Bool.{true, false, _&&_}
-use mathlib.Core.List.{List, [], _∷_}
+use mathlib.Core.List.{[], _∷_}
 use Prim.Native.Nat.{ℕ, _-_, _*_, _≤_, _<_}
 use native.Mathlib.Nat.{zero-div}
 use native.Mathlib.Omega.{arith}
 use lib.Dec.{T, leb→le}
-use lib.ListN.{drop}
 use lib.Seq.{take-nil, drop-nil}
 use Rattle.words.specs.declared.Answer.{Answer}
 use Rattle.words.specs.declared.Answer.the-variants.{Refused}
 use Rattle.words.specs.declared.Refusal.the-variants.{Owned, Nothing, Notlabel, Empty}
-use Rattle.book.specs.Choice.{if_then_else_, _≤ᵇ_}
+use Rattle.book.specs.Choice.{_≤ᵇ_}
 use Rattle.book.specs.Sizes.{Size, within, fits, isLabel, isOrder, currentTurn, isOwned}
 use Rattle.book.specs.Steps.{Step, look, idle, decode}
 use Rattle.book.specs.Verdicts.{takes, refuses, admitted, lookable, placeable}
 use Rattle.book.specs.Book.{Row, deskAt, goneBefore, putTurn, rowsOf, written, first, waits, mayPut, putStep, putMany, orderStep, getAt, getStep, lookStep, deskDoes, deskStep, does, step, opened, answers, fromOpening}
 use Rattle.book.specs.Cases.{fresh, Hold, FreshHold}
-use Rattle.book.proofs.Choice.{by-test, T→true, and-first, and-second, lt→true, le→true, gt→false}
+use Rattle.book.proofs.Choice.{T→true, and-first, and-second, lt→true, le→true, gt→false}
 use Rattle.book.proofs.Total.{replicate-at}
 use Rattle.book.proofs.Turns.{current-low}
 use Rattle.book.proofs.Clearing.{limits}
@@ -86,10 +85,22 @@ module _ (z : Size) (f : T (fits z)) where
   pub fresh-at : Hold (fresh z)
   unfolding fresh step does decode isLabel isOrder putStep orderStep putMany
   fresh-at =
-      let n = limits z f .nb in
-      (fresh-says _ _ (rw (placed 1 refl) refl), (fresh-says _ _ refl, (fresh-says _ _ (rw (placed 999999 refl) refl), (fresh-says _ _ (rw (refused 1000000 refl) refl),
-      (fresh-says _ _ empty,
-      (fresh-says _ _ (rw (looks 0 (omega arith)) owned), (fresh-says _ _ (rw (looks 1 n) nothing), tt)))))))
+      let n = limits z f .nb in (
+        fresh-says _ _ (rw (placed 1 refl) refl),
+        (
+          fresh-says _ _ refl,
+          (
+            fresh-says _ _ (rw (placed 999999 refl) refl),
+            (
+              fresh-says _ _ (rw (refused 1000000 refl) refl),
+              (
+                fresh-says _ _ empty,
+                (fresh-says _ _ (rw (looks 0 (omega arith)) owned), (fresh-says _ _ (rw (looks 1 n) nothing), tt)),
+              ),
+            ),
+          ),
+        ),
+      )
 
 pub fresh-hold : FreshHold
 unfolding FreshHold

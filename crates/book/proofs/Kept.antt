@@ -1,8 +1,8 @@
 -- The labels are kept, and not only their number: what leaves, and what a desk holds, are rows of the book; and the labels that
 -- come out, with those held unfetched and those that wait, are the labels placed. It is the law `tallied` of proofs/Counting.antt
 -- once more, each row weighing what its label weighs.
-use mathlib.Core.Path.{_≡_, refl, sym, ap, _∙_}
-use mathlib.Core.Bool.{Bool, false}
+use mathlib.Core.Path.{_≡_, refl, ap}
+use mathlib.Core.Bool.{false}
 use mathlib.Core.List.{List, [], _∷_, _++_, map}
 use Prim.Native.Nat.{ℕ, zero, suc, _+_, _<_}
 use native.Mathlib.Nat.{not-suc-le-zero, le-of-suc-le-suc}
@@ -18,7 +18,7 @@ use Rattle.book.specs.Demands.{RowsKept, RowsOfBook, LabelsKept, Handed}
 use Rattle.book.specs.Order.{PlacedInOrder}
 use Rattle.book.proofs.Choice.{cases, T→true, not→false}
 use Rattle.book.proofs.Total.{total-replicate}
-use Rattle.book.proofs.Counting.{Tally, reach, opened-kept, rows-kept}
+use Rattle.book.proofs.Counting.{Tally, opened-kept, rows-kept}
 use Rattle.book.proofs.Handed.{handed-over}
 use Rattle.book.proofs.Labels.{labelsOf, placed-in-order}
 
@@ -27,11 +27,12 @@ use Rattle.book.proofs.Labels.{labelsOf, placed-in-order}
 pub rows-of-book : RowsOfBook
 unfolding RowsOfBook RowsKept
 rows-of-book z ss =
-    let rs = (after z (opened z) ss) .rows in
-    (λ n h.
-    cases (ltb n (length rs)) (λ t. ltb→lt n (length rs) t)
-    (λ t. absurd (omega (arith, rows-kept z ss n, ap {B = ℕ} (λ (r : Row). if r .gone then 1 else 0) (List·getD-eq-default rs (record { label = 0; gone = false }) (nltb→le n (length rs) t))))),
-    λ d h e. rw e at ((opened-kept z ss) .fair .within d))
+    let rs = (after z (opened z) ss) .rows in (
+      λ n h.
+          cases (ltb n (length rs)) (λ t. ltb→lt n (length rs) t)
+          (λ t. absurd (omega (arith, rows-kept z ss n, ap {B = ℕ} (λ (r : Row). if r .gone then 1 else 0) (List·getD-eq-default rs (record { label = 0; gone = false }) (nltb→le n (length rs) t))))),
+      λ d h e. rw e at ((opened-kept z ss) .fair .within d),
+    )
 
 -- ---- a tally of any weight
 

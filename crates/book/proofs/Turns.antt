@@ -78,6 +78,7 @@ module _ (z : Size) where
 
 pub current-turn : CurrentTurn
 unfolding CurrentTurn
-current-turn z p i h =
-    (λ u. let k = leb→le i p u in record { stands = current-block z p i h k; low = current-low z p i; largest = λ t l e. current-largest z p i t h k l e },
-    λ n t l e. let k = nleb→lt i p n in omega (arith, mod-eq-of-lt {n = t} {m = z .nb} (omega arith)))
+current-turn z p i h = (
+  λ u. let k = leb→le i p u in record { stands = current-block z p i h k; low = current-low z p i; largest = λ t l e. current-largest z p i t h k l e },
+  λ n t l e. let k = nleb→lt i p n in omega (arith, mod-eq-of-lt {n = t} {m = z .nb} (omega arith)),
+)

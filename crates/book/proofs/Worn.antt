@@ -1,22 +1,22 @@
 -- Put and get by turns, NB 2 and NE 1: n times lead from opening to the book `byTurns n`, every put being placed while n is below
 -- 131,072. Row n is then the one row of turn n: the put starts turn n, and the get moves K on to it.
-use mathlib.Core.Path.{_≡_, refl, sym, ap, ap₂, _∙_}
-use mathlib.Core.Bool.{Bool, true, false, not}
+use mathlib.Core.Path.{_≡_, refl, ap, _∙_}
+use mathlib.Core.Bool.{true, false}
 use mathlib.Core.List.{List, [], _∷_, _++_}
-use Prim.Native.Nat.{ℕ, zero, suc, _+_, _-_, _*_, _/_, _≤_, _<_}
+use Prim.Native.Nat.{ℕ, zero, suc, _+_, _-_, _*_, _≤_, _<_}
 use native.Mathlib.Nat.{div-one, div-lt-iff-lt-mul}
 use native.Mathlib.Omega.{arith}
 use lib.ListN.{length, drop, replicate, length-replicate, length-append}
 use Rattle.words.specs.declared.Answer.{Answer}
 use Rattle.words.specs.declared.Answer.the-variants.{Put, Got}
-use Rattle.book.specs.Choice.{if_then_else_, _<ᵇ_, _≤ᵇ_}
+use Rattle.book.specs.Choice.{_<ᵇ_}
 use Rattle.book.specs.Sizes.{Size, sized, isLabel, roundOf}
-use Rattle.book.specs.Steps.{Step, idle, decode}
+use Rattle.book.specs.Steps.{idle, decode}
 use Rattle.book.specs.Total.{any}
 use Rattle.book.specs.Verdicts.{takes, startable, placeable}
-use Rattle.book.specs.Book.{Row, Book, rowAt, says, append, hands, markGone, goneBefore, putTurn, rowsOf, written, first, waits, heldIn, isBusy, mayPut, putStep, readTurn, getAt, getStep, does, step, opened, answers, after}
+use Rattle.book.specs.Book.{Row, rowAt, says, append, hands, markGone, goneBefore, putTurn, rowsOf, written, first, waits, heldIn, isBusy, mayPut, putStep, readTurn, getAt, getStep, does, step, opened, answers, after}
 use Rattle.book.specs.Messages as M
-use Rattle.book.specs.WornCases.{byTurns, putAndGet, placedAndGot, WornRun}
+use Rattle.book.specs.WornCases.{byTurns, putAndGet, placedAndGot}
 use Rattle.book.proofs.Choice.{choose-same, gt→false}
 use Rattle.book.proofs.Rows.{written-is}
 

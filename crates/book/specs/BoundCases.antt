@@ -3,12 +3,12 @@ use mathlib.Core.Path.{_≡_}
 use mathlib.Core.List.{List, [], _∷_}
 use Prim.Native.Nat.{ℕ}
 use Rattle.words.specs.declared.Answer.{Answer}
-use Rattle.words.specs.declared.Answer.the-variants.{Put, Got, Took, Whole, Seen, Claimed, Done}
+use Rattle.words.specs.declared.Answer.the-variants.{Got, Took, Whole, Seen, Claimed, Done}
 use Rattle.words.specs.declared.Refusal.the-variants.{Lost, Empty}
 use Rattle.book.specs.Sizes.{Size}
 use Rattle.book.specs.Book.{fromOpening}
 use Rattle.book.specs.Counts.{placed, won, lost, bound}
-use Rattle.book.specs.Messages.{put, get, order, claim, fetch, finish, look}
+use Rattle.book.specs.Messages.{get, order, claim, fetch, finish, look}
 use Rattle.book.specs.Cases.{Case, _⇒_, no, on, losing}
 
 pub record Numbers : Type 0 where

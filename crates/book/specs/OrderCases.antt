@@ -4,8 +4,8 @@ use mathlib.Core.Path.{_≡_}
 use mathlib.Core.List.{List, [], _∷_, _++_}
 use Prim.Native.Nat.{ℕ, _/_}
 use Rattle.words.specs.declared.Answer.{Answer}
-use Rattle.words.specs.declared.Answer.the-variants.{Put, Got, Took, Whole, Seen, Claimed, Done, Refused}
-use Rattle.words.specs.declared.Refusal.the-variants.{Owned, Lost, Full, Busy, Empty}
+use Rattle.words.specs.declared.Answer.the-variants.{Put, Got, Took, Whole, Seen, Claimed, Done}
+use Rattle.words.specs.declared.Refusal.the-variants.{Empty}
 use Rattle.book.specs.Choice.{_≡ᵇ_}
 use Rattle.book.specs.Steps.{Step}
 use Rattle.book.specs.Book.{opened, answers, after}

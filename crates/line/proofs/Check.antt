@@ -15,7 +15,7 @@ use Rattle.book.specs.Total.{any, all}
 use Rattle.book.specs.Steps.{Hold, Desk, idle, looked, holding, claimedAt, withFetched}
 use Rattle.book.proofs.Choice.{by-test, choose-true, choose-false, by-order, and-first}
 use Rattle.book.proofs.Turns.{current-low}
-use Rattle.line.specs.Line.{Line, LentDesk, Block, Spot, numbersOf, spotOf, deskOf, unused, sizeOf, recordOf}
+use Rattle.line.specs.Line.{Line, LentDesk, Block, Spot, numbersOf, spotOf, deskOf, unused, sizeOf, here}
 use Rattle.line.specs.Rules.{Holds, Current, DeskRule, Rule1, Rule2, Rule3, Rule4, Rule5, Rule6, Rule7, Sound}
 use Rattle.line.specs.Rules.{Rule, rule1, rule2, rule3, rule4, rule5, rule6, rule7, ruleNumber, RuleAt, ask, ofBlocks, inOrder, Obeys}
 use Rattle.line.specs.Tests.{isRecent, deskObeys, isIdle, holdsAt, clashes, noClash, obeys3}
@@ -115,12 +115,9 @@ module _ (l : Line) (pos : 0 < l .head .nb) where
   unfolding holds
   rule2-told = told (le and le) (λ h. record { from = h .0; to = h .1 }) (λ r. (r .from, r .to))
 
-  abbrev here : ℕ → Block
-  here t = recordOf (sizeOf (l .head)) (l .table) t
-
   -- a desk y that carries turn t, or is idle
   abbrev Desk-told : ℕ → Desk Spot → Type 0
-  Desk-told t y = Tells (deskObeys (l .head .nb) (l .head .ne) (l .head .p) (here t) y) (DeskRule l y)
+  Desk-told t y = Tells (deskObeys (l .head .nb) (l .head .ne) (l .head .p) (here l t) y) (DeskRule l y)
 
   looked-told : (s : Spot) → Desk-told (s .turn) (looked s)
   looked-told s = told (le and lt and (current-told (s .turn) implies lt)) (λ h. (h .0 .0, h .0 .1, h .1)) (λ r. ((r .0, r .1), r .2))
@@ -136,7 +133,7 @@ module _ (l : Line) (pos : 0 < l .head .nb) where
       by-test (Desk-told (x .turn)) (eqb (x .stage) 2) (λ _. holding-told h) (λ _.
       by-test (Desk-told (x .turn)) (eqb (x .stage) 3) (λ _. holding-told (withFetched h)) (λ _. itself)))
 
-  stage-told : (x : LentDesk) → Tells (leb (x .stage) 3 && deskObeys (l .head .nb) (l .head .ne) (l .head .p) (here (x .turn)) (deskOf x)) ((x .stage ≤ 3) × DeskRule l (deskOf x))
+  stage-told : (x : LentDesk) → Tells (leb (x .stage) 3 && deskObeys (l .head .nb) (l .head .ne) (l .head .p) (here l (x .turn)) (deskOf x)) ((x .stage ≤ 3) × DeskRule l (deskOf x))
   stage-told x = le and desk-told x
 
   rule3-told : Tells (holds l 64 rule3) (Rule3 l)

@@ -3,16 +3,14 @@ use mathlib.Core.Path.{_≡_, refl, ap, ap₂}
 use mathlib.Core.Bool.{Bool}
 use mathlib.Core.List.{List, [], _∷_}
 use Prim.Native.Nat.{ℕ, zero, suc}
-use lib.ListN.{length}
 use Rattle.words.specs.declared.Answer.{Answer}
-use Rattle.book.specs.Choice.{if_then_else_}
 use Rattle.book.specs.declared.DeskStep.the-variants.{Look as look}
 use Rattle.book.specs.declared.Verdict.{Verdict}
 use Rattle.book.specs.declared.Verdict.the-variants.{Takes as takes, Refuses as refuses}
 use Rattle.book.specs.Verdicts.{judge, admitted}
 use Rattle.book.specs.Steps.{idle}
 use Rattle.line.specs.Line.{Line, Outcome, sizeOf, refuse, movedBy, deskDoes, deskStep}
-use Rattle.line.specs.Rules.{Rule, rule1, rule2, rule3, rule4, rule5, rule6, rule7, ruleNumber, RuleAt, inOrder}
+use Rattle.line.specs.Rules.{Rule, rule1, rule2, rule3, rule4, rule5, rule6, rule7, RuleAt, inOrder}
 use Rattle.line.specs.Check.{Checked, sound, unfit, broken, fit, holds, firstBroken, check}
 use Rattle.line.specs.Survey.{isSeen, seenFrom, views, surveys, survey}
 use Rattle.line.specs.Demands.{withEntries, CheckUnread, SurveyUnread}
