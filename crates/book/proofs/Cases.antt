@@ -66,7 +66,7 @@ cases-hold =
 
 pub decoding : Decoding
 unfolding Decoding decode
-decoding = refl
+decoding a b = refl
 
 pub worn-cases : WornCases
 unfolding WornCases runs

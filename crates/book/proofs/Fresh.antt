@@ -2,7 +2,7 @@
 use mathlib.Core.Path.{_≡_, refl, ap}
 use mathlib.Core.Bool.{true, false, _&&_}
 use mathlib.Core.List.{[], _∷_}
-use Prim.Native.Nat.{ℕ, _-_, _*_, _≤_, _<_}
+use Prim.Native.Nat.{ℕ, _+_, _-_, _*_, _≤_, _<_}
 use native.Mathlib.Nat.{zero-div}
 use native.Mathlib.Omega.{arith}
 use lib.Dec.{T, leb→le}
@@ -11,7 +11,7 @@ use Rattle.words.specs.declared.Answer.{Answer}
 use Rattle.words.specs.declared.Answer.the-variants.{Refused}
 use Rattle.words.specs.declared.Refusal.the-variants.{Owned, Nothing, Notlabel, Empty}
 use Rattle.book.specs.Choice.{_≤ᵇ_}
-use Rattle.book.specs.Sizes.{Size, within, fits, isLabel, isOrder, currentTurn, isOwned}
+use Rattle.book.specs.Sizes.{Size, highestLabel, within, fits, isLabel, isOrder, currentTurn, isOwned}
 use Rattle.book.specs.Steps.{Step, look, idle, decode}
 use Rattle.book.specs.Verdicts.{takes, refuses, admitted, lookable, placeable}
 use Rattle.book.specs.Book.{Row, deskAt, goneBefore, putTurn, rowsOf, written, first, waits, mayPut, putStep, putMany, orderStep, getAt, getStep, lookStep, deskDoes, deskStep, does, step, opened, answers, fromOpening}
@@ -90,9 +90,9 @@ module _ (z : Size) (f : T (fits z)) where
         (
           fresh-says _ _ refl,
           (
-            fresh-says _ _ (rw (placed 999999 refl) refl),
+            fresh-says _ _ (rw (placed highestLabel refl) refl),
             (
-              fresh-says _ _ (rw (refused 1000000 refl) refl),
+              fresh-says _ _ (rw (refused (highestLabel + 1) refl) refl),
               (
                 fresh-says _ _ empty,
                 (fresh-says _ _ (rw (looks 0 (omega arith)) owned), (fresh-says _ _ (rw (looks 1 n) nothing), tt)),

@@ -6,6 +6,7 @@ pub mod Bound
 pub mod Counting
 pub mod Handed
 pub mod DeskKinds
+pub mod Deeds
 pub mod Fronts
 pub mod Rising
 pub mod Order

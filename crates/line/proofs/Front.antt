@@ -46,15 +46,7 @@ module _ (z : Size) where
     matches-of g = record { turn = g .turn; desks = g .desks; rows = g .rows; labels = g .labels; marks = g .marks; looks = g .looks }
 
     pub agrees-of : Lawful z l → Matches l b → Agrees z l b
-    agrees-of w m = record {
-      lawful = w;
-      turn = m .turn;
-      desks = m .desks;
-      rows = m .rows;
-      labels = m .labels;
-      marks = m .marks;
-      looks = m .looks;
-    }
+    agrees-of w m = record { lawful = w; turn = m .turn; desks = m .desks; rows = m .rows; labels = m .labels; marks = m .marks; looks = m .looks }
 
     -- an answer that changes nothing
     pub stays : Agrees z l b → (a : Answer) → Follows (L.says l a) (B.says b a)

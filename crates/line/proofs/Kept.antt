@@ -120,15 +120,7 @@ desk-kept l l′ e m saw (holding x) held o = let k = held (x .at) refl (o .0) i
 
 -- the same record under desks that hold as many spots of its turn
 pub stands-by : {z : Size} {p : ℕ} {ds ds′ : List LentDesk} {t : ℕ} {c : Block} → held ds′ t ≡ held ds t → Stands z p ds t c → Stands z p ds′ t c
-stands-by e s = record {
-  round = s .round;
-  fits = s .fits;
-  full = s .full;
-  some = s .some;
-  claims = s .claims;
-  zeroth = s .zeroth;
-  holders = rw e (s .holders);
-}
+stands-by e s = record { round = s .round; fits = s .fits; full = s .full; some = s .some; claims = s .claims; zeroth = s .zeroth; holders = rw e (s .holders) }
 
 abbrev pub withDesks : Head → List LentDesk → Head
 withDesks h ds = record { nb = h .nb; ne = h .ne; t = h .t; reading = h .reading; p = h .p; k = h .k; desks = ds }

@@ -29,7 +29,7 @@ module _ (l : Line) (es : List ℕ) where
   holds-unread i rule6 = refl
   holds-unread i rule7 = refl
 
-  broken-unread : (qs : List RuleAt) → firstBroken other qs ≡ firstBroken l qs
+  pub broken-unread : (qs : List RuleAt) → firstBroken other qs ≡ firstBroken l qs
   unfolding firstBroken
   broken-unread [] = refl
   broken-unread (q ∷ qs) = rw (holds-unread (q .place) (q .rule), broken-unread qs) refl
