@@ -2,20 +2,22 @@
 -- same name in small letters.
 use mathlib.Core.Path.{_≡_}
 use mathlib.Core.Logic.{_≢_, _↔_}
-use mathlib.Core.List.{List, _∷_, _++_, map}
+use mathlib.Core.List.{List, [], _∷_, _++_, map}
 use Prim.Native.Nat.{ℕ, zero, suc, _+_, _-_, _/_, _%_, _^_, _≤_, _<_}
 use lib.Dec.{T}
 use lib.ListN.{length}
 use Rattle.words.specs.declared.Answer.the-variants.{Whole, Seen, Refused}
 use Rattle.words.specs.declared.Refusal.{Refusal}
-use Rattle.words.specs.declared.Refusal.the-variants.{Unfit, Damaged, Lost, Range, Empty}
-use Rattle.book.specs.Sizes.{Size, fits, isOrder}
+use Rattle.words.specs.declared.Refusal.the-variants.{Unfit, Damaged, Lost, Range, Worn, Empty}
+use Rattle.book.specs.Sizes.{Size, sized, fits, isOrder}
 use Rattle.book.specs.declared.DeskStep.the-variants.{Look as look, Claim as claim}
 use Rattle.book.specs.declared.Deed.{Deed}
 use Rattle.book.specs.declared.Deed.the-variants.{Get as get, Order as order, Desk as desk}
-use Rattle.book.specs.Steps.{Step, idle, decode}
+use Rattle.book.specs.Steps.{Step, Hold, idle, holding, decode}
 use Rattle.book.specs.declared.Verdict.the-variants.{Refuses as refuses}
 use Rattle.book.specs.Book as B
+use Rattle.book.specs.Messages.{put}
+use Rattle.book.specs.WornCases.{putAndGet, placedAndGot}
 use Rattle.book.specs.Choice.{if_then_else_}
 use Rattle.book.specs.Counts.{placed, got, took, won, lost, unfetched, timesHeld, waiting, handed, times, timesUnfetched, timesWaiting, bound}
 use Rattle.book.specs.Order.{placedLabels}
@@ -183,7 +185,8 @@ LineHanded =
     (handed (answers (opened z) ss) ≡ map (λ n. (B.rowAt ((B.after z (B.opened z) ss) .rows) n) .label) rows) × ((n : ℕ) → times n rows ≤ 1)
 
 -- and no label is lost or invented: a row that is gone left once, or one desk has claimed it and not fetched; no other row did; what
--- left are rows of labels placed; and the labels got and fetched, claimed but unfetched, and waiting are those placed
+-- left, and what desks hold, are rows of labels placed; and the labels got and fetched, claimed but unfetched, and waiting are those
+-- placed, each as often
 unfoldable pub LineRowsKept : Type 0
 LineRowsKept =
     (z : Size) (ss : List Step) → T (fits z)
@@ -192,7 +195,12 @@ LineRowsKept =
     let rows = B.leaves z (B.opened z) ss in
     ((n : ℕ) → times n rows + timesHeld n b ≡ (if (B.rowAt (b .rows) n) .gone then 1 else 0))
     × ((n : ℕ) → 0 < times n rows → n < placed l)
+    × ((d : ℕ) (h : Hold ℕ) → B.deskAt b d ≡ holding h → h .at < placed l)
     × ((a : ℕ) → times a (handed l) + timesUnfetched a b + timesWaiting a b ≡ times a (placedLabels ss l))
+
+-- NE 1, NB 2, put and get by turns: 131,072 labels placed, then WORN
+unfoldable pub LineWornRun : Type 0
+LineWornRun = answers (opened (sized 2 1 1)) (putAndGet 131072 ++ (put 1 ∷ [])) ≡ placedAndGot 131072 ++ (Refused Worn 0 ∷ [])
 
 -- ---- the survey
 
