@@ -98,6 +98,7 @@ pub record Limits (z : Size) : Type 0 where
   pub nb : 2 ≤ z .nb
   pub ne : 0 < z .ne
   pub t : z .t ≤ 16
+  pub desk : 1 ≤ z .t
 
 pub limits : (z : Size) → T (fits z) → Limits z
 unfolding fits
@@ -109,6 +110,7 @@ limits z f =
       nb = leb→le 2 (z .nb) (and-first (2 ≤ᵇ z .nb) (z .nb ≤ᵇ 64) (and-first n e (and-first (n && e) d f)));
       ne = leb→le 1 (z .ne) (and-first (1 ≤ᵇ z .ne) (z .ne ≤ᵇ 64) (and-second n e (and-first (n && e) d f)));
       t = leb→le (z .t) 16 (and-second (1 ≤ᵇ z .t) (z .t ≤ᵇ 16) (and-second (n && e) d f));
+      desk = leb→le 1 (z .t) (and-first (1 ≤ᵇ z .t) (z .t ≤ᵇ 16) (and-second (n && e) d f));
     }
 
 -- the desks settle, and the owner gets w times and once more

@@ -1,22 +1,21 @@
 -- The marked cases of one step on a fresh book, at every size that fits: no row waits, K and P are 0, and every desk is idle.
 use mathlib.Core.Path.{_≡_, refl, ap}
-use mathlib.Core.Bool.{true, false, _&&_}
+use mathlib.Core.Bool.{true, false}
 use mathlib.Core.List.{[], _∷_}
-use Prim.Native.Nat.{ℕ, _+_, _-_, _*_, _≤_, _<_}
+use Prim.Native.Nat.{ℕ, _+_, _-_, _*_, _<_}
 use native.Mathlib.Nat.{zero-div}
 use native.Mathlib.Omega.{arith}
-use lib.Dec.{T, leb→le}
+use lib.Dec.{T}
 use lib.Seq.{take-nil, drop-nil}
 use Rattle.words.specs.declared.Answer.{Answer}
 use Rattle.words.specs.declared.Answer.the-variants.{Refused}
 use Rattle.words.specs.declared.Refusal.the-variants.{Owned, Nothing, Notlabel, Empty}
-use Rattle.book.specs.Choice.{_≤ᵇ_}
-use Rattle.book.specs.Sizes.{Size, highestLabel, within, fits, isLabel, isOrder, currentTurn, isOwned}
+use Rattle.book.specs.Sizes.{Size, highestLabel, fits, isLabel, isOrder, currentTurn, isOwned}
 use Rattle.book.specs.Steps.{Step, look, idle, decode}
 use Rattle.book.specs.Verdicts.{takes, refuses, admitted, lookable, placeable}
 use Rattle.book.specs.Book.{Row, deskAt, goneBefore, putTurn, rowsOf, written, first, waits, mayPut, putStep, putMany, orderStep, getAt, getStep, lookStep, deskDoes, deskStep, does, step, opened, answers, fromOpening}
 use Rattle.book.specs.Cases.{fresh, Hold, FreshHold}
-use Rattle.book.proofs.Choice.{T→true, and-first, and-second, lt→true, le→true, gt→false}
+use Rattle.book.proofs.Choice.{T→true, lt→true, le→true, gt→false}
 use Rattle.book.proofs.Total.{replicate-at}
 use Rattle.book.proofs.Turns.{current-low}
 use Rattle.book.proofs.Clearing.{limits}
@@ -40,13 +39,6 @@ module _ (z : Size) (f : T (fits z)) where
   unfolding opened
   desk-idle = replicate-at (z .t) 0 idle
 
-  some-desk : 1 ≤ z .t
-  unfolding fits
-  some-desk =
-      let n = within 2 64 (z .nb) in
-      let e = within 1 64 (z .ne) in
-      leb→le 1 (z .t) (and-first (1 ≤ᵇ z .t) (z .t ≤ᵇ 16) (and-second (n && e) (within 1 16 (z .t)) f))
-
   -- ---- its answers
 
   placed : (a : ℕ) → isLabel a ≡ true → mayPut z (opened z) a ≡ takes
@@ -63,7 +55,7 @@ module _ (z : Size) (f : T (fits z)) where
 
   admits : (i : ℕ) → i < z .nb → admitted z {A = ℕ} 0 (look i) idle ≡ takes
   unfolding admitted
-  admits i h = rw (gt→false (z .t) 0 some-desk, gt→false (z .nb) i h) refl
+  admits i h = rw (gt→false (z .t) 0 (limits z f .desk), gt→false (z .nb) i h) refl
 
   owned : (lookStep z (opened z) 0 0) .answer ≡ Refused Owned 0
   unfolding lookStep lookable isOwned opened

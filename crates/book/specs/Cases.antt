@@ -78,9 +78,11 @@ fresh z =
     ∷ of z (look 0 1 ⇒ no Nothing ∷ [])
     ∷ []
 
+-- a claim is lost, where the bound lets one be lost
 abbrev pub losing : Case
 losing = on 2 1 1 (put 1 ⇒ Put 1 ∷ put 2 ⇒ Put 2 ∷ look 0 1 ⇒ Seen 0 ∷ get ⇒ Got 1 ∷ get ⇒ Got 2 ∷ claim 0 ⇒ no Lost ∷ [])
 
+-- the paper's listing
 abbrev pub listing : Case
 listing =
     on 2 2 2

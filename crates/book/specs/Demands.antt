@@ -26,10 +26,6 @@ Counting =
 unfoldable pub Placed : Type 0
 Placed = (z : Size) (ss : List Step) → length ((after z (opened z) ss) .rows) ≡ placed (answers z (opened z) ss)
 
--- no row's label leaves twice
-unfoldable pub NeverTwice : Type 0
-NeverTwice = (z : Size) (ss : List Step) (n : ℕ) → times n (leaves z (opened z) ss) ≤ 1
-
 -- a row that is gone has left, once, or one desk has claimed it and not fetched; a row that waits, or is not placed, neither
 unfoldable pub RowsKept : Type 0
 RowsKept =
@@ -45,6 +41,16 @@ RowsOfBook =
     ((n : ℕ) → 0 < times n (leaves z (opened z) ss) → n < length (b .rows))
     × ((d : ℕ) (h : Hold ℕ) → deskAt b d ≡ holding h → h .at < length (b .rows))
 
+-- so no row's label leaves twice
+unfoldable pub NeverTwice : Type 0
+NeverTwice = (z : Size) (ss : List Step) (n : ℕ) → times n (leaves z (opened z) ss) ≤ 1
+
+-- and the labels that the answers hand over are those of the rows that leave, in order
+unfoldable pub Handed : Type 0
+Handed =
+    (z : Size) (ss : List Step)
+    → handed (answers z (opened z) ss) ≡ map (λ n. (rowAt ((after z (opened z) ss) .rows) n) .label) (leaves z (opened z) ss)
+
 -- the labels got and fetched, claimed but unfetched, and waiting are the labels placed: each label as often
 unfoldable pub LabelsKept : Type 0
 LabelsKept =
@@ -52,12 +58,6 @@ LabelsKept =
     → let l = answers z (opened z) ss in
     let b = after z (opened z) ss in
     times a (handed l) + timesUnfetched a b + timesWaiting a b ≡ times a (placedLabels ss l)
-
--- and the labels that the answers hand over are those of the rows that leave, in order
-unfoldable pub Handed : Type 0
-Handed =
-    (z : Size) (ss : List Step)
-    → handed (answers z (opened z) ss) ≡ map (λ n. (rowAt ((after z (opened z) ss) .rows) n) .label) (leaves z (opened z) ss)
 
 -- demand 3
 unfoldable pub Bounded : Type 0
