@@ -39,7 +39,7 @@ check : Unit {0}
 unfolding shared desks owner rules ofBlocks inOrder C.fit C.firstBroken C.check
 check = tt
 
-calls : Unit {0}
+unfoldable pub calls : Unit {0}
 unfolding check opens step orders answers after seenFrom maskOf lowestFrom views surveys survey
 calls = tt
 

@@ -129,7 +129,7 @@ module _ (h : Head) (ys : List Block) (es : List ℕ) where
       (λ l. (opens l z) .line) (λ l. opens-long l z) (λ l m. ap (λ (o : L.Opened). o .line) (opens-many l m z)) (giveBegun r fs) e in
       λ j. record { line = o .0 j; said = openingSaid (o .1 j) }
 
-  pub checked : (r : Checked) → C.Checks h (loaded ys) (length ys) (length es) r → Checks (lent h ys es) r
+  pub checked : (r : Checked) → C.GivesCheck h (loaded ys) (length ys) (length es) r → Checks (lent h ys es) r
   checked r e = ap checkSaid (lent-checked h (loaded ys) (length ys) es r e ∙ same-answer h ys es check Misfit check-many)
 
   pub surveyed : (r : Findings) → E.GivesSurvey h (loaded ys) (length ys) (length es) r → Surveys (lent h ys es) r

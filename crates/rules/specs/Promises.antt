@@ -9,5 +9,5 @@ use Rattle.line.specs.declared.Head.{Head}
 use Rattle.line.specs.Check.{check}
 use Rattle.byvalue.specs.Lent.{lineOf}
 
-abbrev pub Checks : Head → List Block → ℕ → ℕ → Checked → Type 0
-Checks h t n m r = r ≡ check (lineOf h t n (replicate m 0))
+abbrev pub GivesCheck : Head → List Block → ℕ → ℕ → Checked → Type 0
+GivesCheck h t n m r = r ≡ check (lineOf h t n (replicate m 0))
