@@ -5,8 +5,8 @@
 // output: for each size a checksum of the answers, and how many of them were refusals. The CPU times
 // go to standard error: run target/bin/bench, or read target/log/bench.stderr. They mean something
 // only where the program runs without an emulator.
-use engine::opening::no_head;
-use engine::opening::no_table;
+use byvalue::no_head;
+use byvalue::no_table;
 use engine::opening::open;
 use engine::step::step;
 use libc::STDERR_FILENO;
@@ -19,12 +19,6 @@ ghost use Prim.Native.Nat.{_≤_, _<_};
 const STEPS: u32 = 1000000;
 
 const NE: u16 = 64;
-
-// The entries of the largest line.
-const ENTRIES: usize = 4096;
-
-// Labels are below this.
-const LABELS: u32 = 1000000;
 
 const DESKS: u16 = 16;
 
@@ -81,6 +75,9 @@ fn by_desk(code: u8, d: u8, block: u32) -> Message
         b: 0,
     }
 }
+
+// Labels are below this.
+const LABELS: u32 = 1000000;
 
 // Step i of a cycle: the owner puts five labels and gets three, and the two desks make a round each. A get
 // stands between look and claim, so that some claims are lost to the owner.
@@ -213,6 +210,9 @@ fn say_times(nb: u16, full: u64, empty: u64, sum: u64) {
     );
     io::write_all(STDERR_FILENO, b" ns a step\n");
 }
+
+// The entries of the largest line.
+const ENTRIES: usize = 4096;
 
 // One size: both loops, timed.
 fn measure(nb: u16)

@@ -4,7 +4,7 @@
 --   lost + dead + T × K(before) ≤ dead(before) + (T - 1) × won + T × K,
 -- and by adding up for each run, with K ≤ P and exactly T desks throughout.
 use mathlib.Core.Path.{_≡_, refl, ap, _∙_}
-use mathlib.Core.Bool.{not, _&&_}
+use mathlib.Core.Bool.{not}
 use mathlib.Core.List.{List, [], _∷_}
 use Prim.Native.Nat.{ℕ, zero, suc, _+_, _-_, _*_, _/_, _≤_, _<_, zero-le}
 use native.Mathlib.Nat.{mul-le-mul-left, le-trans}
@@ -15,15 +15,16 @@ use Rattle.words.specs.declared.Answer.the-variants.{Refused}
 use Rattle.book.specs.Choice.{if_then_else_, _<ᵇ_, _≤ᵇ_}
 use Rattle.book.specs.Total.{total}
 use Rattle.book.specs.Sizes.{Size, isLabel, isOrder, roundOf}
-use Rattle.book.specs.Steps.{Step, DeskStep, Deed, put, get, order, desk, unlisted, decode, Hold, Desk, idle, looked, holding, claimedAt, withFetched}
+use Rattle.book.specs.Steps.{Step, DeskStep, Deed, decode, Hold, Desk, idle, looked, holding, claimedAt, withFetched}
 use Rattle.book.specs.Verdicts.{Verdict, judge, startable, placeable}
 use Rattle.book.specs.Book.{Row, Book, Outcome, says, rowAt, deskAt, withDesk, append, markGone, putTurn, rowOf, written, first, waits, isBusy, mayPut, putStep, putMany, orderStep}
 use Rattle.book.specs.Book.{readTurn, getAt, getStep, winnable, deskStep, does, step, opened, answers, after}
 use Rattle.book.specs.Counts.{count, won, lost, bound}
 use Rattle.book.specs.Demands.{Placed, Bounded}
-use Rattle.book.proofs.Choice.{by-test, cases, T→true, not→false, and-first, and-second, lt→true}
+use Rattle.book.proofs.Choice.{by-test, cases, T→true, not→false, and-second, lt→true}
 use Rattle.book.proofs.Total.{total-set, total-mono, total-le, total-below, total-replicate}
 use Rattle.book.proofs.Turns.{div-mono}
+use Rattle.book.proofs.Deeds.{by-deed}
 use Rattle.book.proofs.DeskKinds.{isLost, desk-kind}
 use Rattle.book.proofs.Counting.{placed-rows}
 use Rattle.book.proofs.Rows.{row-turn, first-fits, first-waits, read-from, read-to, row-append, mark-length, mark-other}
@@ -186,12 +187,8 @@ module _ (z : Size) where
   -- ---- every step, and every run
 
   deed-paid : (b : Book) (s : Deed) → Fit b → Pays b (does z b s)
-  unfolding does
-  deed-paid b (put a) f = put-paid b a f
-  deed-paid b get f = get-paid b f
-  deed-paid b (order a e) f = order-paid b a e f
-  deed-paid b (desk d s) f = desk-paid b f d s
-  deed-paid b unlisted f = stays b f
+  deed-paid b s f =
+      by-deed z b (Pays b) (record { puts = λ a. put-paid b a f; gets = get-paid b f; orders = λ a e. order-paid b a e f; desks = desk-paid b f; unlists = stays b f }) s
 
   run-paid : (b : Book) (ss : List Step) → Fit b → Paid b (after z b ss) (lost (answers z b ss)) (won (answers z b ss))
   unfolding answers after step total

@@ -4,23 +4,24 @@
 -- Both are one law, `tallied`, of two tallies. `Kept` says what a step keeps, the labels of proofs/Handed.antt among it:
 -- one lemma for each kind of change, one for each step, then every run.
 use mathlib.Core.Path.{_≡_, refl, sym, ap, ap₂, _∙_}
-use mathlib.Core.Bool.{Bool, true, false, not, _&&_}
+use mathlib.Core.Bool.{Bool, true, false, not}
 use mathlib.Core.List.{List, [], _∷_, _++_, map, map-append}
-use Prim.Native.Nat.{ℕ, zero, suc, _+_, _-_, _*_, _/_, _≤_, _<_}
+use Prim.Native.Nat.{ℕ, zero, suc, _+_, _-_, _/_, _≤_, _<_}
 use native.Mathlib.Omega.{arith}
 use lib.Dec.{T, eqb, eqb→eq}
 use lib.ListN.{length, getD, set, length-replicate, length-set, length-append, List·getD-append}
 use lib.Seq.{getD-set-same, getD-set-other}
-use Rattle.book.specs.Choice.{if_then_else_, _<ᵇ_, _≤ᵇ_, _≡ᵇ_}
+use Rattle.book.specs.Choice.{if_then_else_, _<ᵇ_}
 use Rattle.book.specs.Total.{total}
-use Rattle.book.specs.Sizes.{Size, isOrder, isUsed, isOwned, currentTurn}
-use Rattle.book.specs.Steps.{Step, DeskStep, Deed, put, get, order, desk, unlisted, decode, Hold, Desk, idle, looked, holding, claimedAt, withFetched, isFetched}
-use Rattle.book.specs.Book.{Row, Book, Outcome, refuse, rowAt, deskAt, withDesk, append, markGone, putTurn, rowOf, first, waits, mayPut, putStep, putMany, orderStep, readTurn}
+use Rattle.book.specs.Sizes.{Size, isOrder}
+use Rattle.book.specs.Steps.{Step, DeskStep, Deed, decode, Hold, Desk, idle, looked, holding, claimedAt, withFetched, isFetched}
+use Rattle.book.specs.Book.{Row, Book, Outcome, rowAt, deskAt, withDesk, append, markGone, putTurn, waits, mayPut, putStep, putMany, orderStep, readTurn}
 use Rattle.book.specs.Book.{getAt, getStep, winnable, deskStep, does, step, opened, answers, after, leaves}
 use Rattle.book.specs.Counts.{count, placed, got, took, unfetchedBy, isRow, waitsBy, handed}
-use Rattle.book.specs.Demands.{Counting, Placed, NeverTwice}
-use Rattle.book.proofs.Choice.{by-test, by-verdict, cases, T→true, not→false, and-first, and-second, neq-test, eqb-same}
-use Rattle.book.proofs.Total.{total-append, total-set, total-cong, total-replicate, replicate-at}
+use Rattle.book.specs.Demands.{Counting, Placed, RowsKept, NeverTwice}
+use Rattle.book.proofs.Choice.{by-test, by-verdict, cases, T→true, not→false, and-first, neq-test, eqb-same}
+use Rattle.book.proofs.Total.{total-append, total-set, total-replicate, replicate-at}
+use Rattle.book.proofs.Deeds.{by-deed}
 use Rattle.book.proofs.DeskKinds.{Free, desk-kind}
 use Rattle.book.proofs.Rows.{first-waits, first-in, row-append, mark-length, mark-other, mark-same, mark-label}
 
@@ -241,12 +242,15 @@ module _ (z : Size) where
     -- ---- every step, every run
 
     pub does-kept : (s : Deed) → Owes 0 b (does z b s)
-    unfolding does getStep
-    does-kept (put a) = put-kept a
-    does-kept get = get-kept (readTurn z (putTurn z (b .rows) - b .k) (b .rows) (b .k))
-    does-kept (order a e) = order-kept a e
-    does-kept (desk d s) = desk-kept d s
-    does-kept unlisted = refused
+    unfolding getStep
+    does-kept =
+        by-deed z b (Owes 0 b) (record {
+          puts = put-kept;
+          gets = get-kept (readTurn z (putTurn z (b .rows) - b .k) (b .rows) (b .k));
+          orders = order-kept;
+          desks = desk-kept;
+          unlists = refused;
+        })
 
   abbrev pub Run : Book → List Step → Type 0
   Run b ss = let l = answers z b ss in Kept b 0 (after z b ss) (placed l) (got l + took l) (handed l) (leaves z b ss)
@@ -289,8 +293,12 @@ pub placed-rows : Placed
 unfolding Placed opened
 placed-rows z ss = omega (arith, (opened-kept z ss) .grown)
 
+pub rows-kept : RowsKept
+unfolding RowsKept opened only
+rows-kept z ss n = omega (arith, (opened-kept z ss) .tallied (only n), total-replicate (unfetchedBy (isRow n)) (z .t) idle refl)
+
 pub never-twice : NeverTwice
-unfolding NeverTwice opened only
+unfolding NeverTwice RowsKept
 never-twice z ss n =
     let most = by-test {A = ℕ} (λ m. m ≤ 1) ((rowAt ((after z (opened z) ss) .rows) n) .gone) {x = 1} {y = 0} (λ _. omega arith) (λ _. omega arith) in
-    omega (arith, (opened-kept z ss) .tallied (only n), total-replicate (unfetchedBy (isRow n)) (z .t) idle refl)
+    omega (arith, rows-kept z ss n)

@@ -4,6 +4,7 @@ use mathlib.Core.Path.{_≡_, refl}
 use mathlib.Core.Bool.{Bool, not, _&&_}
 use mathlib.Core.List.{List, [], _∷_}
 use Prim.Native.Nat.{ℕ, zero, suc, _%_, _<_}
+use native.Mathlib.Omega.{arith}
 use lib.Dec.{T, nleb→lt}
 use lib.ListN.{getD, set}
 use Rattle.words.specs.declared.Answer.the-variants.{Took, Seen, Claimed, Done, Refused}
@@ -56,9 +57,14 @@ module _ (z : Size) (b : Book) (P : Outcome → Type 0) where
           (λ v. k .seen d t i free (nleb→lt t (b .k) (rw (T→true u (and-first u w v)) at o)) (and-second u w v))
           (λ _. k .refused _ tt))
 
+      -- the desk that wins holds row n, which is the row seen
+      won-kind : (r n : ℕ) → n ≡ r → deskAt b d ≡ looked r → T (winnable z (b .rows) (b .k) r)
+          → P (says (record { rows = markGone (b .rows) r; k = b .k; desks = set (b .desks) d (holding (claimedAt n)) }) (Claimed (r % z .ne)))
+      won-kind r n q e w = rw q (k .won d r i e w)
+
       claim-kind : (r : ℕ) → deskAt b d ≡ looked r → P (claimStep z b d r)
       unfolding claimStep
-      claim-kind r e = by-test P (winnable z (b .rows) (b .k) r) (λ w. k .won d r i e w) (λ l. k .lost d r i e l)
+      claim-kind r e = by-test P (winnable z (b .rows) (b .k) r) (λ w. won-kind r _ (omega arith) e w) (λ l. k .lost d r i e l)
 
       -- the grid, a stage at a time: of its sixteen cells five are taken
       abbrev At : ℕ → Hold ℕ → DeskStep → Type 0

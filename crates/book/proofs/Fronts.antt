@@ -15,12 +15,14 @@ use Rattle.words.specs.declared.Refusal.{Refusal}
 use Rattle.book.specs.Choice.{_<ᵇ_, _≤ᵇ_}
 use Rattle.book.specs.Sizes.{Size, isLabel, isOrder, roundOf}
 use Rattle.book.specs.Verdicts.{Verdict, judge, startable, placeable}
-use Rattle.book.specs.Steps.{Step, DeskStep, Deed, put, get, order, desk, unlisted, decode, Desk, idle, looked, holding, claimedAt, withFetched}
+use Rattle.book.specs.Steps.{Step, DeskStep, Deed, decode, Desk, idle, looked, holding, claimedAt, withFetched}
 use Rattle.book.specs.Book.{Row, Book, Outcome, rowAt, deskAt, append, markGone, goneBefore, putTurn, rowOf, rowsOf, written, first, waits, isBusy, mayPut, putStep, putMany, orderStep, readTurn}
 use Rattle.book.specs.Book.{getAt, getStep, deskStep, does, step, opened, after}
+use Rattle.book.specs.Demands.{GetMoves}
 use Rattle.book.proofs.Choice.{by-test, cases, T→true, true-not-false, neq-test}
 use Rattle.book.proofs.Total.{replicate-at}
 use Rattle.book.proofs.Turns.{div-mono, div-next}
+use Rattle.book.proofs.Deeds.{by-deed}
 use Rattle.book.proofs.DeskKinds.{desk-kind, each-desk}
 use Rattle.book.proofs.Rows.{written-is, row-turn, row-place, first-fits, read-from, read-to, row-append, mark-length, mark-other}
 
@@ -302,12 +304,8 @@ module _ (z : Size) where
   -- ---- every step, every run
 
   does-grows : (b : Book) (e : Deed) → Fronts b → Grows b ((does z b e) .book)
-  unfolding does
-  does-grows b (put a) f = put-grows b f a
-  does-grows b get f = get-grows b f
-  does-grows b (order a e) f = order-grows b a e f
-  does-grows b (desk d s) f = desk-grows b f d s
-  does-grows b unlisted f = stays b f
+  does-grows b e f =
+      by-deed z b (λ o. Grows b (o .book)) (record { puts = put-grows b f; gets = get-grows b f; orders = λ a e. order-grows b a e f; desks = desk-grows b f; unlists = stays b f }) e
 
   pub step-grows : (b : Book) (s : Step) → Fronts b → Grows b ((step z b s) .book)
   unfolding step
@@ -332,3 +330,18 @@ module _ (z : Size) where
     past = λ n h. absurd (omega arith);
     seen = λ d. rw (replicate-at {A = Desk ℕ} (z .t) d idle) tt;
   }
+
+-- ---- one get moves at most NB - 1 blocks
+
+get-turn : (z : Size) (b : Book) (t : ℕ) → (getAt z b t) .book .k ≡ t
+unfolding getAt
+get-turn z b t = by-test (λ (o : Outcome). o .book .k ≡ t) (waits z (b .rows) t) (λ _. refl) (λ _. refl)
+
+pub get-moves : GetMoves
+unfolding GetMoves step does getStep
+get-moves z ss s e =
+    let b = after z (opened z) ss in
+    let f = (run-grows z (opened z) ss (opened-fronts z)) .fronts in
+    let n = putTurn z (b .rows) - b .k in
+    rw (e, get-turn z b (readTurn z n (b .rows) (b .k)))
+    (read-from z n (b .rows) (b .k), omega (arith, read-to z n (b .rows) (b .k), f .near))

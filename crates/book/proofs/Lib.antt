@@ -6,12 +6,16 @@ pub mod Bound
 pub mod Counting
 pub mod Handed
 pub mod DeskKinds
+pub mod Deeds
 pub mod Fronts
 pub mod Rising
 pub mod Order
 pub mod Labels
+pub mod Kept
 pub mod FirstOut
 pub mod Settling
 pub mod Emptying
 pub mod Clearing
+pub mod Worn
+pub mod Fresh
 pub mod Cases

@@ -4,10 +4,11 @@ use mathlib.Core.Logic.{_≢_}
 use Prim.Native.Nat.{ℕ, zero, suc, _+_, _-_, _*_, _/_, _%_, _≤_, _<_, zero-le}
 use native.Mathlib.Nat.{div-zero, le-div-iff-mul-le, div-lt-iff-lt-mul, lt-div-mul-add, div-mul-le-self, le-trans, div-add-mod', mod-lt, mul-le-mul-right, mod-eq-of-lt, add-mul-mod-self-right}
 use native.Mathlib.Omega.{arith}
-use lib.Dec.{ltb, eqb, ltb→lt, lt→ltb, nltb→le, eqb→eq}
+use lib.Dec.{ltb, eqb, ltb→lt, lt→ltb, nltb→le, leb→le, nleb→lt, eqb→eq}
 use lib.Arith.{digits-div, digits-mod}
 use Rattle.book.specs.Sizes.{Size, blockOf, currentTurn}
 use Rattle.book.specs.Book.{rowOf}
+use Rattle.book.specs.Demands.{CurrentTurn}
 use Rattle.book.proofs.Choice.{cases, same-test, eq→eqb}
 
 pub div-mono : {a b : ℕ} (k : ℕ) → a ≤ b → a / k ≤ b / k
@@ -74,3 +75,10 @@ module _ (z : Size) where
   pub row-inj : (t p u q : ℕ) → p < z .ne → q < z .ne → rowOf z t p ≡ rowOf z u q → (t ≡ u) × (p ≡ q)
   row-inj t p u q hp hq e =
       (sym (digits-div t hp) ∙ ap (λ (n : ℕ). n / z .ne) e ∙ digits-div u hq, sym (digits-mod t hp) ∙ ap (λ (n : ℕ). n % z .ne) e ∙ digits-mod u hq)
+
+pub current-turn : CurrentTurn
+unfolding CurrentTurn
+current-turn z p i h = (
+  λ u. let k = leb→le i p u in record { stands = current-block z p i h k; low = current-low z p i; largest = λ t l e. current-largest z p i t h k l e },
+  λ n t l e. let k = nleb→lt i p n in omega (arith, mod-eq-of-lt {n = t} {m = z .nb} (omega arith)),
+)

@@ -3,13 +3,13 @@ use mathlib.Core.Path.{_≡_}
 use mathlib.Core.List.{List, [], _∷_}
 use Prim.Native.Nat.{ℕ}
 use Rattle.words.specs.declared.Answer.{Answer}
-use Rattle.words.specs.declared.Answer.the-variants.{Put, Got, Took, Whole, Seen, Claimed, Done}
+use Rattle.words.specs.declared.Answer.the-variants.{Got, Took, Whole, Seen, Claimed, Done}
 use Rattle.words.specs.declared.Refusal.the-variants.{Lost, Empty}
 use Rattle.book.specs.Sizes.{Size}
 use Rattle.book.specs.Book.{fromOpening}
 use Rattle.book.specs.Counts.{placed, won, lost, bound}
-use Rattle.book.specs.Messages.{put, get, order, claim, fetch, finish, look}
-use Rattle.book.specs.Cases.{Case, _⇒_, no, on}
+use Rattle.book.specs.Messages.{get, order, claim, fetch, finish, look}
+use Rattle.book.specs.Cases.{Case, _⇒_, no, on, losing}
 
 pub record Numbers : Type 0 where
   pub placed : ℕ
@@ -27,10 +27,7 @@ numbersOf z l = record { placed = placed l; won = won l; lost = lost l; bound = 
 unfoldable pub boundCases : List BoundCase
 boundCases =
     -- NE 1, NB 2, T 1: put, put, look at 1, get, get, claim: LOST, where the bound is 1
-    record {
-      run = on 2 1 1 (put 1 ⇒ Put 1 ∷ put 2 ⇒ Put 2 ∷ look 0 1 ⇒ Seen 0 ∷ get ⇒ Got 1 ∷ get ⇒ Got 2 ∷ claim 0 ⇒ no Lost ∷ []);
-      numbers = record { placed = 2; won = 0; lost = 1; bound = 1 };
-    }
+    record { run = losing; numbers = record { placed = 2; won = 0; lost = 1; bound = 1 } }
     -- both desks look at one label, and one of them wins; both look at the next, and the owner takes the block over
     ∷ record {
       run = on 2 2 2

@@ -1,22 +1,30 @@
--- The cases, as data: a size, the steps of a run from opening, and their answers. Where the size is outside its limits the
--- answer is UNFIT alone, so that the book and the limits stand in one statement, `CasesHold`.
+-- The cases, as data: a size, the steps of a run from opening, their answers, and the bound on claims lost where the paper says it.
+-- Where the size is outside its limits the answer is UNFIT alone, so that the book and the limits stand in one statement, `CasesHold`.
 use mathlib.Core.Path.{_≡_}
 use mathlib.Core.List.{List, [], _∷_, _++_, map}
 use Prim.Native.Nat.{ℕ, zero, suc, _+_}
+use lib.Dec.{T}
 use Rattle.words.specs.declared.Answer.{Answer}
 use Rattle.words.specs.declared.Answer.the-variants.{Put, Got, Took, Whole, Seen, Claimed, Done, Refused}
 use Rattle.words.specs.declared.Refusal.{Refusal}
 use Rattle.words.specs.declared.Refusal.the-variants.{Unfit, Badstep, Nodesk, Noblock, Stage, Owned, Nothing, Lost, Notlabel, Range, Full, Busy, Empty}
-use Rattle.book.specs.Sizes.{Size, sized}
+use Rattle.book.specs.Sizes.{Size, sized, fits}
 use Rattle.book.specs.Steps.{Step}
 use Rattle.book.specs.Messages.{raw, put, get, order, claim, fetch, finish, look, most}
 use Rattle.book.specs.Book.{fromOpening}
+use Rattle.book.specs.Counts.{placed, won, bound}
 
 infix 68 _⇒_
+-- of a case's bound the paper says nothing, or a number
+pub data Bound : Type 0 where
+  unsaid : Bound
+  boundIs : ℕ → Bound
+
 pub record Case : Type 0 where
   pub size : Size
   pub steps : List Step
   pub answers : List Answer
+  pub bound : Bound
 
 -- ---- a case is written as its steps, each with its answer
 
@@ -35,46 +43,67 @@ abbrev pub gets : ℕ → ℕ → List Exchange → List Exchange
 gets zero a l = l
 gets (suc n) a l = (get ⇒ Got a) ∷ gets n (suc a) l
 
--- NB, NE, T and the run
+-- a size and the run; NB, NE, T and the run
+abbrev pub of : Size → List Exchange → Case
+of z l = record { size = z; steps = map (λ x. x .step) l; answers = map (λ x. x .answer) l; bound = unsaid }
+
 abbrev pub on : ℕ → ℕ → ℕ → List Exchange → Case
-on nb ne t l = record { size = sized nb ne t; steps = map (λ x. x .step) l; answers = map (λ x. x .answer) l }
+on nb ne t l = of (sized nb ne t) l
 
 abbrev pub unfit : ℕ → ℕ → ℕ → Case
-unfit nb ne t = record { size = sized nb ne t; steps = put 1 ∷ get ∷ []; answers = no Unfit ∷ [] }
+unfit nb ne t = record { size = sized nb ne t; steps = put 1 ∷ get ∷ []; answers = no Unfit ∷ []; bound = unsaid }
+
+-- where the bound is n
+abbrev pub bounded : ℕ → Case → Case
+bounded n c = record { size = c .size; steps = c .steps; answers = c .answers; bound = boundIs n }
 
 -- ---- marked in "Either side of the line", with the listing
+
+-- what a fresh line answers to one step, at every size
+unfoldable pub fresh : Size → List Case
+fresh z =
+    -- order 1 to 1: WHOLE 1
+    of z (order 1 1 ⇒ Whole 1 ∷ [])
+    -- order 1 to 0: RANGE
+    ∷ of z (order 1 0 ⇒ no Range ∷ [])
+    -- put 999,999 placed
+    ∷ of z (put 999999 ⇒ Put 999999 ∷ [])
+    -- put 1,000,000 NOTLABEL
+    ∷ of z (put 1000000 ⇒ no Notlabel ∷ [])
+    -- get on a fresh line: EMPTY
+    ∷ of z (get ⇒ no Empty ∷ [])
+    -- look at block 0 of a fresh line: OWNED
+    ∷ of z (look 0 0 ⇒ no Owned ∷ [])
+    -- look at block 1 of a fresh line: NOTHING
+    ∷ of z (look 0 1 ⇒ no Nothing ∷ [])
+    ∷ []
+
+-- a claim is lost, where the bound lets one be lost
+abbrev pub losing : Case
+losing = on 2 1 1 (put 1 ⇒ Put 1 ∷ put 2 ⇒ Put 2 ∷ look 0 1 ⇒ Seen 0 ∷ get ⇒ Got 1 ∷ get ⇒ Got 2 ∷ claim 0 ⇒ no Lost ∷ [])
+
+-- the paper's listing
+abbrev pub listing : Case
+listing =
+    on 2 2 2
+    (order 1 5 ⇒ Refused Full 4 ∷ look 0 1 ⇒ Seen 0 ∷ look 1 1 ⇒ Seen 0 ∷ claim 0 ⇒ Claimed 0 ∷ claim 1 ⇒ no Lost
+    ∷ get ⇒ Got 1 ∷ get ⇒ Got 2 ∷ get ⇒ Got 4 ∷ put 5 ⇒ Put 5 ∷ put 6 ⇒ Put 6 ∷ put 7 ⇒ no Full ∷ get ⇒ Got 5
+    ∷ put 7 ⇒ no Busy ∷ fetch 0 ⇒ Took 3 ∷ finish 0 ⇒ Done ∷ put 7 ⇒ Put 7 ∷ get ⇒ Got 6 ∷ get ⇒ Got 7
+    ∷ get ⇒ no Empty ∷ look 1 0 ⇒ no Owned ∷ [])
 
 unfoldable pub marked : List Case
 marked =
     -- order 1 to 100, NE 64, NB 2: WHOLE 100; 100 gets hand over 1 to 100, the next is EMPTY
     on 2 64 1 (order 1 100 ⇒ Whole 100 ∷ gets 100 1 (get ⇒ no Empty ∷ []))
-    -- order 1 to 1: WHOLE 1
-    ∷ on 2 64 1 (order 1 1 ⇒ Whole 1 ∷ [])
-    -- order 1 to 0: RANGE
-    ∷ on 2 64 1 (order 1 0 ⇒ no Range ∷ [])
-    -- put 999,999 placed
-    ∷ on 2 64 1 (put 999999 ⇒ Put 999999 ∷ [])
-    -- put 1,000,000 NOTLABEL
-    ∷ on 2 64 1 (put 1000000 ⇒ no Notlabel ∷ [])
-    -- get on a fresh line: EMPTY
-    ∷ on 2 64 1 (get ⇒ no Empty ∷ [])
-    -- look at block 0 of a fresh line: OWNED
-    ∷ on 2 64 1 (look 0 0 ⇒ no Owned ∷ [])
-    -- look at block 1 of a fresh line: NOTHING
-    ∷ on 2 64 1 (look 0 1 ⇒ no Nothing ∷ [])
+    ∷ fresh (sized 2 64 1)
     -- NB 1 UNFIT
-    ∷ unfit 1 64 1
+    ++ (unfit 1 64 1
     -- NB 65 UNFIT
     ∷ unfit 65 64 1
-    -- NE 1, NB 2, T 1: put, put, look at 1, get, get, claim: LOST
-    ∷ on 2 1 1 (put 1 ⇒ Put 1 ∷ put 2 ⇒ Put 2 ∷ look 0 1 ⇒ Seen 0 ∷ get ⇒ Got 1 ∷ get ⇒ Got 2 ∷ claim 0 ⇒ no Lost ∷ [])
-    -- the listing
-    ∷ on 2 2 2
-    (order 1 5 ⇒ Refused Full 4 ∷ look 0 1 ⇒ Seen 0 ∷ look 1 1 ⇒ Seen 0 ∷ claim 0 ⇒ Claimed 0 ∷ claim 1 ⇒ no Lost
-    ∷ get ⇒ Got 1 ∷ get ⇒ Got 2 ∷ get ⇒ Got 4 ∷ put 5 ⇒ Put 5 ∷ put 6 ⇒ Put 6 ∷ put 7 ⇒ no Full ∷ get ⇒ Got 5
-    ∷ put 7 ⇒ no Busy ∷ fetch 0 ⇒ Took 3 ∷ finish 0 ⇒ Done ∷ put 7 ⇒ Put 7 ∷ get ⇒ Got 6 ∷ get ⇒ Got 7
-    ∷ get ⇒ no Empty ∷ look 1 0 ⇒ no Owned ∷ [])
-    ∷ []
+    -- NE 1, NB 2, T 1: put, put, look at 1, get, get, claim: LOST, where the bound is 1
+    ∷ bounded 1 losing
+    ∷ listing
+    ∷ [])
 
 -- ---- four ways to get it nearly right: each with a short run that tells it from the right one
 
@@ -219,9 +248,24 @@ limits =
 unfoldable pub cases : List Case
 cases = marked ++ (nearlyRight ++ (letPass ++ (deskSteps ++ (puts ++ limits))))
 
+-- its answers are the book's, and so is its bound where it is said
+abbrev pub Holds : Case → Type 0
+Holds c = holds (c .bound)
+  where
+    run : List Answer
+    run = fromOpening (c .size) (c .steps)
+
+    holds : Bound → Type 0
+    holds unsaid = run ≡ c .answers
+    holds (boundIs n) = (run ≡ c .answers) × (bound (c .size) (won run) (placed run) ≡ n)
+
 abbrev pub Hold : List Case → Type 0
 Hold [] = Unit {0}
-Hold (c ∷ cs) = (fromOpening (c .size) (c .steps) ≡ c .answers) × Hold cs
+Hold (c ∷ cs) = Holds c × Hold cs
 
 unfoldable pub CasesHold : Type 0
 CasesHold = Hold cases
+
+-- the marked cases of one step, at every size
+unfoldable pub FreshHold : Type 0
+FreshHold = (z : Size) → T (fits z) → Hold (fresh z)

@@ -8,7 +8,7 @@ use Rattle.book.specs.Choice.{if_then_else_, _≡ᵇ_}
 use Rattle.book.specs.Total.{total}
 use Rattle.book.specs.Sizes.{Size}
 use Rattle.book.specs.Steps.{Desk, idle, looked, holding, isFetched}
-use Rattle.book.specs.Book.{Row, Book}
+use Rattle.book.specs.Book.{Row, Book, rowAt}
 
 -- what one answer adds: labels placed, got and fetched, claims won and lost; and the labels that it hands over
 pub record Count : Type 0 where
@@ -75,9 +75,16 @@ unfoldable pub handed : List Answer → List ℕ
 handed [] = []
 handed (a ∷ l) = (count a) .labels ++ handed l
 
--- how often row n stands in a list of rows
+-- how often row n stands in a list of rows, or label n in a list of labels
 abbrev pub times : ℕ → List ℕ → ℕ
 times n l = total (isRow n) l
+
+-- how often label a is among those that desks have claimed and not fetched, and among those that wait
+abbrev pub timesUnfetched : ℕ → Book → ℕ
+timesUnfetched a b = total (unfetchedBy (λ r. isRow a ((rowAt (b .rows) r) .label))) (b .desks)
+
+abbrev pub timesWaiting : ℕ → Book → ℕ
+timesWaiting a b = total (λ r. if r .gone then 0 else isRow a (r .label)) (b .rows)
 
 -- demand 3: so many claims may be lost; the last part is 0 when none is placed
 unfoldable pub bound : Size → ℕ → ℕ → ℕ

@@ -4,15 +4,15 @@ use mathlib.Core.Path.{_≡_}
 use mathlib.Core.List.{List, [], _∷_, _++_}
 use Prim.Native.Nat.{ℕ, _/_}
 use Rattle.words.specs.declared.Answer.{Answer}
-use Rattle.words.specs.declared.Answer.the-variants.{Put, Got, Took, Whole, Seen, Claimed, Done, Refused}
-use Rattle.words.specs.declared.Refusal.the-variants.{Owned, Lost, Full, Busy, Empty}
+use Rattle.words.specs.declared.Answer.the-variants.{Put, Got, Took, Whole, Seen, Claimed, Done}
+use Rattle.words.specs.declared.Refusal.the-variants.{Empty}
 use Rattle.book.specs.Choice.{_≡ᵇ_}
 use Rattle.book.specs.Steps.{Step}
 use Rattle.book.specs.Book.{opened, answers, after}
 use Rattle.book.specs.Order.{Increasing, filter, gotRows, wentRows, gotLabels, placedLabels}
 use Rattle.book.specs.Clearing.{clearing}
 use Rattle.book.specs.Messages.{put, get, order, claim, fetch, finish, look}
-use Rattle.book.specs.Cases.{Case, _⇒_, no, on}
+use Rattle.book.specs.Cases.{Case, _⇒_, no, on, listing}
 
 pub record Lists : Type 0 where
   pub got : List ℕ
@@ -46,11 +46,7 @@ unfoldable pub orderCases : List OrderCase
 orderCases =
     -- the listing: label 3 is claimed before 1 is got, and nothing is left
     record {
-      run = on 2 2 2
-          (order 1 5 ⇒ Refused Full 4 ∷ look 0 1 ⇒ Seen 0 ∷ look 1 1 ⇒ Seen 0 ∷ claim 0 ⇒ Claimed 0 ∷ claim 1 ⇒ no Lost
-          ∷ get ⇒ Got 1 ∷ get ⇒ Got 2 ∷ get ⇒ Got 4 ∷ put 5 ⇒ Put 5 ∷ put 6 ⇒ Put 6 ∷ put 7 ⇒ no Full ∷ get ⇒ Got 5
-          ∷ put 7 ⇒ no Busy ∷ fetch 0 ⇒ Took 3 ∷ finish 0 ⇒ Done ∷ put 7 ⇒ Put 7 ∷ get ⇒ Got 6 ∷ get ⇒ Got 7
-          ∷ get ⇒ no Empty ∷ look 1 0 ⇒ no Owned ∷ []);
+      run = listing;
       lists = record {
         got = 0 ∷ 1 ∷ 3 ∷ 4 ∷ 5 ∷ 6 ∷ [];
         went = 2 ∷ 0 ∷ 1 ∷ 3 ∷ 4 ∷ 5 ∷ 6 ∷ [];

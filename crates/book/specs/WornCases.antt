@@ -1,21 +1,38 @@
--- WORN, at a book that no short run reaches: NE 1, NB 2, put and get by turns, 131,072 labels placed.
+-- WORN: NE 1, NB 2, put and get by turns: 131,072 labels placed, then WORN. And its tests, at books that no short run reaches.
 use mathlib.Core.Path.{_≡_}
 use mathlib.Core.Bool.{true, false}
-use mathlib.Core.List.{[], _∷_}
-use Prim.Native.Nat.{ℕ, _-_}
+use mathlib.Core.List.{List, [], _∷_, _++_}
+use Prim.Native.Nat.{ℕ, zero, suc, _-_, _≤_}
 use lib.ListN.{replicate}
-use Rattle.words.specs.declared.Answer.the-variants.{Put}
+use Rattle.words.specs.declared.Answer.{Answer}
+use Rattle.words.specs.declared.Answer.the-variants.{Put, Got}
 use Rattle.words.specs.declared.Refusal.the-variants.{Notlabel, Worn}
 use Rattle.book.specs.Sizes.{sized}
-use Rattle.book.specs.Steps.{idle}
+use Rattle.book.specs.Steps.{Step, idle}
 use Rattle.book.specs.Verdicts.{takes, refuses, startable, placeable}
-use Rattle.book.specs.Book.{Book, opened, after, putStep}
+use Rattle.book.specs.Book.{Book, opened, answers, after, putStep}
 use Rattle.book.specs.Messages.{put, get}
 use Rattle.book.specs.Cases.{no}
 
 -- the book once label 1 was put and got n times
 abbrev pub byTurns : ℕ → Book
 byTurns n = record { rows = replicate n (record { label = 1; gone = true }); k = n - 1; desks = idle ∷ [] }
+
+-- n times put 1 and get, and the answers where each is placed
+unfoldable pub putAndGet : ℕ → List Step
+putAndGet zero = []
+putAndGet (suc n) = put 1 ∷ get ∷ putAndGet n
+
+unfoldable pub placedAndGot : ℕ → List Answer
+placedAndGot zero = []
+placedAndGot (suc n) = Put 1 ∷ Got 1 ∷ placedAndGot n
+
+-- each of the first 131,072 labels is placed and got, and the next is WORN
+unfoldable pub WornRun : Type 0
+WornRun =
+    let z = sized 2 1 1 in
+    ((n : ℕ) → n ≤ 131072 → (answers z (opened z) (putAndGet n) ≡ placedAndGot n) × (after z (opened z) (putAndGet n) ≡ byTurns n))
+    × (answers z (opened z) (putAndGet 131072 ++ (put 1 ∷ [])) ≡ placedAndGot 131072 ++ (no Worn ∷ []))
 
 unfoldable pub WornCases : Type 0
 WornCases =

@@ -27,7 +27,7 @@ use Rattle.line.proofs.Guards.{step-does, orders-does}
 use Rattle.line.proofs.Verdicts.{refuses-not}
 use Rattle.line.specs.Rules.{Sound}
 use Rattle.byvalue.specs.Lent.{lineOf}
-use Rattle.rules.specs.Promises.{Checks}
+use Rattle.rules.specs.Promises.{GivesCheck}
 use Rattle.byvalue.proofs.Lent.{lent-length}
 use Rattle.rules.proofs.Entries.{lent-checked}
 use Rattle.byvalue.specs.GivenBack.{Given, given, backOf}
@@ -74,7 +74,7 @@ module _ (h : Head) (t : List Block) (n : ℕ) (es : List ℕ) where
     }
 
   -- c is what the check said, of as many entries as there are, and v what that lets pass
-  module _ (c : Checked) (q : Checks h t n (length es) c) (v : Verdict) (p : v ≡ passes c) where
+  module _ (c : Checked) (q : GivesCheck h t n (length es) c) (v : Verdict) (p : v ≡ passes c) where
     verdict : v ≡ passes (check l)
     verdict = p ∙ ap passes (lent-checked h t n es c q)
 

@@ -18,7 +18,7 @@ use Rattle.portal.proofs.order.Symbol as portal-order
 use Rattle.lbq.specs.Narrow.{narrowCode, narrowSize}
 use Rattle.lbq.specs.Replies.{Reply, ofAnswer, ofOpening}
 use Rattle.lbq.specs.Promises.{RepliesOpening, RepliesStep, RepliesOrder}
-use Rattle.lbq.proofs.Reply as R
+use Rattle.lbq.proofs.replies.Reply as R
 use Rattle.lbq.proofs.narrow.code.Symbol as narrow-code
 use Rattle.lbq.proofs.narrow.size.Symbol as narrow-size
 use Rattle.lbq.proofs.replies.of_answer.Symbol as of-answer

@@ -29,15 +29,15 @@ use denote.Triple.Statement.{Triple}
 use Rattle.line.specs.Line.{Line}
 use Rattle.walk.proofs.Called.{lone-typed}
 use Rattle.walk.proofs.Entered.{proves, cites}
-use Rattle.walk.proofs.Numbers.{Numbers, ints, numbers, machine, typed}
-use Rattle.walk.proofs.Locals.{none, Addrs, env, past, past-is, From, from-first, from-next, from-past, values, alloc-all, pass-all, free-all, free, from-at}
+use Rattle.walk.proofs.Numbers.{Numbers, ints, numbers, numbers-args, machine, typed}
+use Rattle.walk.proofs.Locals.{none, Addrs, env, past, past-is, From, from-first, from-four, from-past, values, alloc-all, pass-all, free-all, free, from-at}
 use Rattle.portal.proofs.Changing.{Does, Changes}
 use Rattle.portal.proofs.Rows.{RH, RB}
 use Rattle.lbq.specs.Replies.{Reply}
-use Rattle.lbq.proofs.Reply as R
-use Rattle.lbq.proofs.Reply.Laws as R′
+use Rattle.lbq.proofs.replies.Reply as R
+use Rattle.lbq.proofs.replies.Reply.Laws as R′
 use Rattle.lbq.proofs.Single.{Single, calls-single}
-use Rattle.lbq.proofs.Given.{Number, kept, narrowed, given, passed, made, down, narrowing, operands, on, numbers-on, news, Known, narrow-all, read-both}
+use Rattle.lbq.proofs.Given.{Number, kept, narrowed, given, passed, made, down, narrowing, operands, on, news, Known, narrow-all, read-both}
 use Rattle.lbq.proofs.Lent.{line, tokens}
 use Rattle.lbq.proofs.Passing.{held, calls-passed, exits, Walk, meets}
 
@@ -108,16 +108,11 @@ module _ (c : Calling) where
     it-is : (F : List (Ty × ℕ)) (j : ℕ) → getD (env (ints ws) bs ++ (env (ints ts) cs ++ F)) (past (ints ws) (past (ints ts) j)) none ≡ getD F j none
     it-is F j = past-is (ints ws) bs (env (ints ts) cs ++ F) (past (ints ts) j) ∙ past-is (ints ts) cs F j
 
-    after-four : (e₀ e₁ e₂ e₃ : Ty × ℕ) (E : List (Ty × ℕ)) (k : ℕ) (τs : List Ty) (ds : Addrs τs) → From E k τs ds → From (e₀ ∷ e₁ ∷ e₂ ∷ e₃ ∷ E) (suc (suc (suc (suc k)))) τs ds
-    after-four e₀ e₁ e₂ e₃ E k τs ds at =
-        from-next e₀ (e₁ ∷ e₂ ∷ e₃ ∷ E) (suc (suc (suc k))) τs ds (from-next e₁ (e₂ ∷ e₃ ∷ E) (suc (suc k)) τs ds
-        (from-next e₂ (e₃ ∷ E) (suc k) τs ds (from-next e₃ E k τs ds at)))
-
     givens : (e₀ e₁ e₂ e₃ : Ty × ℕ) (F : List (Ty × ℕ)) → From (e₀ ∷ e₁ ∷ e₂ ∷ e₃ ∷ (env (ints ws) bs ++ (env (ints ts) cs ++ F))) 4 (ints ws) bs
-    givens e₀ e₁ e₂ e₃ F = after-four e₀ e₁ e₂ e₃ _ 0 (ints ws) bs (from-first (ints ws) bs (env (ints ts) cs ++ F))
+    givens e₀ e₁ e₂ e₃ F = from-four e₀ e₁ e₂ e₃ _ 0 (ints ws) bs (from-first (ints ws) bs (env (ints ts) cs ++ F))
 
     mades : (e₀ e₁ e₂ e₃ : Ty × ℕ) (F : List (Ty × ℕ)) → From (e₀ ∷ e₁ ∷ e₂ ∷ e₃ ∷ (env (ints ws) bs ++ (env (ints ts) cs ++ F))) first (ints ts) cs
-    mades e₀ e₁ e₂ e₃ F = after-four e₀ e₁ e₂ e₃ _ (past (ints ws) 0) (ints ts) cs (from-past (ints ws) bs (env (ints ts) cs ++ F) 0 (ints ts) cs (from-first (ints ts) cs F))
+    mades e₀ e₁ e₂ e₃ F = from-four e₀ e₁ e₂ e₃ _ (past (ints ws) 0) (ints ts) cs (from-past (ints ws) bs (env (ints ts) cs ++ F) 0 (ints ts) cs (from-first (ints ts) cs F))
 
   -- ---- the walk
   module _ {M : Type 1} (𝓤 : URA M) (H : Heap 𝓤) (A : Atoms 𝓤) (W : Given 𝓤 H A) (makes : Makes 𝓤 H A (c .Answer) (Is (c .Answer))) (lawful : Lawful 𝓤 H A (c .Answer))
@@ -163,7 +158,7 @@ module _ (c : Calling) where
         free ! $ free ! $ free ! $ free ! $ free ! $ free ! $ free0 ! $
         by ! (exits 𝓤 H A W κs qs x ws ns R.the-row (c .promise) (LL.makes R.the-type R′.the-plain 𝓤 H A) r m w is long
         (subst (λ (s : Reply). c .promise (line x) (numbers 3 κs ws ns) s m) (sym told) (c .keeps (line x) m (numbers 3 κs ws ns) y
-        (subst (λ (z : Numbers (passed (c .numbers))). c .does (line x) z y m) (numbers-on κs (c .numbers) ns) said)))))))))))))))))))
+        (subst (λ (z : Numbers (passed (c .numbers))). c .does (line x) z y m) (numbers-args 3 κs (passed (c .numbers)) (down (c .numbers) (numbers 3 κs ws ns))) said)))))))))))))))))))
 
   -- ---- a call keeps its promise wherever those that it calls do
   module _ {M : Type 1} (𝓤 : URA M) (H : Heap 𝓤) (𝓜 : Model 𝓤 H) (𝓖 : GhostRules 𝓤 H) (𝓡 : Running 𝓤 H 𝓜) (γ : Env) (k : Name) where

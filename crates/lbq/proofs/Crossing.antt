@@ -3,7 +3,8 @@ use mathlib.Core.Path.{_≡_, refl}
 use mathlib.Core.List.{[], _∷_, _++_, map}
 use Prim.Native.Nat.{ℕ}
 use lib.ListN.{replicate}
-use Rattle.words.proofs.Laws.{answers, fifteen, carried}
+use Rattle.words.specs.Spelling.{answers}
+use Rattle.words.proofs.Laws.{fifteen, carried}
 use Rattle.line.specs.declared.Opening.the-variants.{Open, Unfit as NoLine}
 use Rattle.line.specs.declared.Checked.the-variants.{Sound, Unfit as Misfit, Broken}
 use Rattle.line.specs.declared.Surveyed.{Surveyed}

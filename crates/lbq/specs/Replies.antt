@@ -5,9 +5,9 @@ use Rattle.line.specs.declared.Opening.{Opening}
 use Rattle.line.specs.declared.Checked.{Checked}
 use Rattle.line.specs.declared.Findings.{Findings}
 use Rattle.line.specs.Numbers.{OpeningSaid, openingSaid, CheckSaid, checkSaid, SurveySaid, surveySaid}
-pub use Rattle.lbq.specs.declared.Reply.{Reply}
-pub use Rattle.lbq.specs.declared.CheckReply.{CheckReply}
-pub use Rattle.lbq.specs.declared.SurveyReply.{SurveyReply}
+pub use Rattle.lbq.specs.declared.replies.Reply.{Reply}
+pub use Rattle.lbq.specs.declared.replies.CheckReply.{CheckReply}
+pub use Rattle.lbq.specs.declared.replies.SurveyReply.{SurveyReply}
 
 abbrev pub reply : Said → Reply
 reply s = record { number = s .number; value = s .value }

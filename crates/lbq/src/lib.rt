@@ -30,30 +30,9 @@ ghost use Rattle.portal.specs.Promises.{before, after, theSize, theStep};
 ghost use Rattle.lbq.specs.Promises.{RepliesOpening, RepliesStep, RepliesOrder, RepliesCheck, RepliesSurvey};
 use line::Block;
 use line::Head;
-
-// What opening, a step and an order answer: the paper's number of the refusal, or 0 where there is none, and the value.
-#[repr(C)]
-pub struct Reply {
-    pub number: u32,
-    pub value: u32,
-}
-
-// What the check answers: 0 sound, 1 UNFIT, 2 DAMAGED with the place and the rule, which are 0 otherwise.
-#[repr(C)]
-pub struct CheckReply {
-    pub number: u32,
-    pub place: u32,
-    pub rule: u32,
-}
-
-// What the survey answers: 0, or 1 UNFIT, or 2 DAMAGED; the mask, how many blocks, and the lowest.
-#[repr(C)]
-pub struct SurveyReply {
-    pub mask: u64,
-    pub number: u32,
-    pub count: u32,
-    pub lowest: u32,
-}
+use replies::CheckReply;
+use replies::Reply;
+use replies::SurveyReply;
 
 // Opens a line of nb blocks, ne entries a block and t desks in what is lent.
 #[no_mangle]

@@ -1,7 +1,4 @@
 // What crosses of each answer: an enum cannot, so its number and its values do. specs/Replies.antt has each case.
-use crate::CheckReply;
-use crate::Reply;
-use crate::SurveyReply;
 use line::Checked;
 use line::Findings;
 use line::Opening;
@@ -10,6 +7,30 @@ use words::Answer;
 ghost use mathlib.Core.Path.{_≡_};
 ghost use Rattle.line.specs.Numbers.{openingSaid, surveyNumber};
 ghost use Rattle.lbq.specs.Replies.{ofAnswer, ofOpening, ofCheck, ofSurvey};
+
+// What opening, a step and an order answer: the paper's number of the refusal, or 0 where there is none, and the value.
+#[repr(C)]
+pub struct Reply {
+    pub number: u32,
+    pub value: u32,
+}
+
+// What the check answers: 0 sound, 1 UNFIT, 2 DAMAGED with the place and the rule, which are 0 otherwise.
+#[repr(C)]
+pub struct CheckReply {
+    pub number: u32,
+    pub place: u32,
+    pub rule: u32,
+}
+
+// What the survey answers: 0, or 1 UNFIT, or 2 DAMAGED; the mask, how many blocks, and the lowest.
+#[repr(C)]
+pub struct SurveyReply {
+    pub mask: u64,
+    pub number: u32,
+    pub count: u32,
+    pub lowest: u32,
+}
 
 pub fn of_answer(a: Answer) -> Reply
     ensures { λ r. ⌜ r ≡ ofAnswer a ⌝ }

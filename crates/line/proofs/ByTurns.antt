@@ -10,39 +10,36 @@ use lib.Dec.{T, leb, eqb, le→leb}
 use lib.ListN.{length}
 use Rattle.book.specs.Sizes.{Size, fits, within}
 use Rattle.book.proofs.Choice.{and-in, eq→eqb}
-use Rattle.line.specs.Line.{Line, unused, sizeOf}
+use Rattle.line.specs.Line.{Line, unused, sizeOf, sizeIn, here}
 use Rattle.line.specs.Rules.{Rule1, Rule2, Rule3}
 use Rattle.line.specs.Check.{fit}
 use Rattle.line.specs.Agrees.{Lawful}
 use Rattle.line.proofs.Current.{Window}
-use Rattle.line.proofs.Cells.{Valid, valid-of, blocks-of, entries-of, here, Cell, cell, blank, rule4, rule5, rule6, rule7}
+use Rattle.line.proofs.Cells.{Valid, valid-of, blocks-of, entries-of, Cell, cell, blank, rule4, rule5, rule6, rule7}
 
 module _ (l : Line) where
-  abbrev z : Size
-  z = sizeOf (l .head)
-
   -- t is a turn of the window
   abbrev pub In : ℕ → Type 0
-  In t = Window z (l .head .p) t
+  In t = Window (sizeIn l) (l .head .p) t
 
   pub record ByTurns : Type 0 where
-    pub valid : Valid z
-    pub blocks : length (l .table) ≡ z .nb
-    pub room : length (l .entries) ≡ z .nb * z .ne
+    pub valid : Valid (sizeIn l)
+    pub blocks : length (l .table) ≡ l .head .nb
+    pub room : length (l .entries) ≡ l .head .nb * l .head .ne
     pub many : length (l .head .desks) ≡ 16
     pub one : Rule1 l
     pub two : Rule2 l
     pub three : Rule3 l
     pub turns : (t : ℕ) → In t → Cell l t
-    pub blanks : (u : ℕ) → l .head .p < u → u < z .nb → here l u ≡ unused
+    pub blanks : (u : ℕ) → l .head .p < u → u < l .head .nb → here l u ≡ unused
 
   -- ---- from a lawful line
 
-  pub told : Lawful z l → ByTurns
-  told w = let v = valid-of z l w in record {
+  pub told : Lawful (sizeIn l) l → ByTurns
+  told w = let v = valid-of (sizeIn l) l w in record {
     valid = v;
-    blocks = blocks-of z l w;
-    room = entries-of z l w;
+    blocks = blocks-of (sizeIn l) l w;
+    room = entries-of (sizeIn l) l w;
     many = w .many;
     one = w .sound .one;
     two = w .sound .two;

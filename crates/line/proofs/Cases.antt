@@ -12,7 +12,7 @@ use Rattle.line.specs.Check as C
 use Rattle.line.specs.Calls.{opens, step, orders, answers, after}
 use Rattle.line.specs.Survey.{seenFrom, maskOf, lowestFrom, views, surveys, survey}
 use Rattle.line.specs.Damaged.{SoundCases, UnfitCases, Rule1Cases, Rule2Cases, Rule3Cases, PairCases, Rule4Cases, Rule5Cases, Rule6Cases, Rule7Cases, SeveralCases}
-use Rattle.line.specs.Cases.{ListingCases, RunCases, WornCases, WayCases, StepCases, RefusedCases, OrderCases, SurveyCases, OpeningCases, IdleCases}
+use Rattle.line.specs.Cases.{ListingCases, RunCases, WornCases, WayCases, StepCases, RefusedCases, OrderCases, SurveyCases, OpeningCases, OpeningUnfit, IdleCases}
 use Rattle.book.specs.Clearing.{settling}
 use Rattle.line.specs.Clearing.{emptying, clearing}
 use Rattle.line.specs.ClearingCases.{ClearingCases}
@@ -39,7 +39,7 @@ check : Unit {0}
 unfolding shared desks owner rules ofBlocks inOrder C.fit C.firstBroken C.check
 check = tt
 
-calls : Unit {0}
+unfoldable pub calls : Unit {0}
 unfolding check opens step orders answers after seenFrom maskOf lowestFrom views surveys survey
 calls = tt
 
@@ -126,6 +126,10 @@ survey-cases = refl
 pub opening-cases : OpeningCases
 unfolding calls OpeningCases
 opening-cases = refl
+
+pub opening-unfit : OpeningUnfit
+unfolding calls OpeningUnfit
+opening-unfit l ne t = refl
 
 pub idle-cases : IdleCases
 unfolding IdleCases

@@ -12,7 +12,7 @@ use Rattle.book.specs.Total.{total}
 use Rattle.book.specs.Sizes.{Size, fits, within, blockOf, roundOf, currentTurn}
 use Rattle.book.proofs.Choice.{and-first, and-second}
 use Rattle.book.proofs.Turns.{current-low, current-high, current-block}
-use Rattle.line.specs.Line.{Line, LentDesk, Block, unused, sizeOf, deskOf, recordOf}
+use Rattle.line.specs.Line.{Line, LentDesk, Block, unused, deskOf, recordOf, sizeIn, here}
 use Rattle.line.specs.Rules.{heldIn, Rule4, Rule5, Rule6, Rule7, Sound}
 use Rattle.line.specs.Check.{fit}
 use Rattle.line.specs.Agrees.{Lawful}
@@ -85,24 +85,18 @@ pub record Stands (z : Size) (p : ℕ) (ds : List LentDesk) (t : ℕ) (c : Block
   pub holders : c .claimed ≡ c .finished + held ds t
 
 module _ (l : Line) where
-  abbrev z : Size
-  z = sizeOf (l .head)
-
-  abbrev pub here : ℕ → Block
-  here t = recordOf z (l .table) t
-
   abbrev pub Cell : ℕ → Type 0
-  Cell t = Stands z (l .head .p) (l .head .desks) t (here t)
+  Cell t = Stands (sizeIn l) (l .head .p) (l .head .desks) t (here l t)
 
-  pub cell : 0 < l .head .nb → Sound l → (t : ℕ) → Window z (l .head .p) t → Cell t
+  pub cell : 0 < l .head .nb → Sound l → (t : ℕ) → Window (sizeIn l) (l .head .p) t → Cell t
   unfolding recordOf
   cell pos s t w =
-      let i = blockOf z t in
-      let e : currentTurn z (l .head .p) i ≡ t = window→current z (l .head .p) t pos w in
+      let i = blockOf (sizeIn l) t in
+      let e : currentTurn (sizeIn l) (l .head .p) i ≡ t = window→current (sizeIn l) (l .head .p) t pos w in
       let h : i < l .head .nb = mod-lt t pos in
       let u : i ≤ l .head .p = omega (arith, mod-le t (l .head .nb), w .low) in
       record {
-        round = s .four i h .round u ∙ ap (roundOf z) e;
+        round = s .four i h .round u ∙ ap (roundOf (sizeIn l)) e;
         fits = s .five i h .fits u;
         full = λ b. s .five i h .full u (rw e b);
         some = λ b. s .five i h .some u (e ∙ b);
@@ -111,21 +105,21 @@ module _ (l : Line) where
         holders = rw e at (s .seven i h .holders u);
       }
 
-  pub blank : Sound l → (u : ℕ) → l .head .p < u → u < l .head .nb → here u ≡ unused
+  pub blank : Sound l → (u : ℕ) → l .head .p < u → u < l .head .nb → here l u ≡ unused
   unfolding recordOf
   blank s u h k = rw (mod-eq-of-lt {n = u} {m = l .head .nb} k) (s .four u k .zeros h)
 
   -- and back, block by block
-  module _ (pos : 0 < l .head .nb) (cells : (t : ℕ) → Window z (l .head .p) t → Cell t) (blanks : (u : ℕ) → l .head .p < u → u < l .head .nb → here u ≡ unused) (i : ℕ) (h : i < l .head .nb) where
+  module _ (pos : 0 < l .head .nb) (cells : (t : ℕ) → Window (sizeIn l) (l .head .p) t → Cell t) (blanks : (u : ℕ) → l .head .p < u → u < l .head .nb → here l u ≡ unused) (i : ℕ) (h : i < l .head .nb) where
     abbrev t : ℕ
-    t = currentTurn z (l .head .p) i
+    t = currentTurn (sizeIn l) (l .head .p) i
 
     of-block : i ≤ l .head .p → Cell t
-    of-block u = cells t (record { low = current-low z (l .head .p) i; high = current-high z (l .head .p) i pos u })
+    of-block u = cells t (record { low = current-low (sizeIn l) (l .head .p) i; high = current-high (sizeIn l) (l .head .p) i pos u })
 
-    at-block : i ≤ l .head .p → here t ≡ getD (l .table) i unused
+    at-block : i ≤ l .head .p → here l t ≡ getD (l .table) i unused
     unfolding recordOf
-    at-block u = rw (current-block z (l .head .p) i h u) refl
+    at-block u = rw (current-block (sizeIn l) (l .head .p) i h u) refl
 
     pub rule4 : Rule4 l i
     unfolding recordOf

@@ -1,7 +1,8 @@
 -- The check is what the rules say. The test of each rule tells the rule's sentence; rule 3 is taken desk by desk. The
 -- check asks its questions in order, and a walk along them ends at the first that is broken, or all are obeyed and the
--- line is sound. So what the check answers is one law, `checked`, and the three statements about it are read off.
-use mathlib.Core.Path.{_≡_, refl, sym, ap, subst, _∙_}
+-- line is sound. So what the check answers is one law, `checked`, and three statements about it are read off; `names` is its
+-- converse, that the first rule broken is the one named.
+use mathlib.Core.Path.{_≡_, refl, sym, ap, ap₂, subst, _∙_}
 use mathlib.Core.Logic.{_≢_}
 use mathlib.Core.Bool.{not, _&&_}
 use mathlib.Core.List.{List, [], _∷_, _++_, append-nil}
@@ -12,14 +13,14 @@ use lib.ListN.{getD, drop}
 use lib.Seq.{getD-drop, append-snoc}
 use Rattle.book.specs.Total.{any, all}
 use Rattle.book.specs.Steps.{Hold, Desk, idle, looked, holding, claimedAt, withFetched}
-use Rattle.book.proofs.Choice.{by-test, by-order, and-first}
+use Rattle.book.proofs.Choice.{by-test, choose-true, choose-false, by-order, and-first}
 use Rattle.book.proofs.Turns.{current-low}
-use Rattle.line.specs.Line.{Line, LentDesk, Block, Spot, numbersOf, spotOf, deskOf, unused, sizeOf, recordOf}
+use Rattle.line.specs.Line.{Line, LentDesk, Block, Spot, numbersOf, spotOf, deskOf, unused, sizeOf, here}
 use Rattle.line.specs.Rules.{Holds, Current, DeskRule, Rule1, Rule2, Rule3, Rule4, Rule5, Rule6, Rule7, Sound}
-use Rattle.line.specs.Rules.{Rule, rule1, rule2, rule3, rule4, rule5, rule6, rule7, RuleAt, ask, ofBlocks, inOrder, Obeys}
+use Rattle.line.specs.Rules.{Rule, rule1, rule2, rule3, rule4, rule5, rule6, rule7, ruleNumber, RuleAt, ask, ofBlocks, inOrder, Obeys}
 use Rattle.line.specs.Tests.{isRecent, deskObeys, isIdle, holdsAt, clashes, noClash, obeys3}
 use Rattle.line.specs.Check.{Checked, sound, unfit, broken, fit, holds, firstBroken, check}
-use Rattle.line.specs.Demands.{CheckUnfit, CheckSound, CheckBroken, FirstBroken}
+use Rattle.line.specs.Demands.{CheckUnfit, CheckSound, CheckBroken, CheckNames, FirstBroken}
 use Rattle.line.proofs.Current.{current→window, window→current}
 use Rattle.line.proofs.Cells.{valid}
 use Rattle.line.proofs.Tests.{Tells, itself, told, le, lt, eq, isnt, _and_, _or_, _implies_, choice, all-told, none-told}
@@ -114,12 +115,9 @@ module _ (l : Line) (pos : 0 < l .head .nb) where
   unfolding holds
   rule2-told = told (le and le) (λ h. record { from = h .0; to = h .1 }) (λ r. (r .from, r .to))
 
-  abbrev here : ℕ → Block
-  here t = recordOf (sizeOf (l .head)) (l .table) t
-
   -- a desk y that carries turn t, or is idle
   abbrev Desk-told : ℕ → Desk Spot → Type 0
-  Desk-told t y = Tells (deskObeys (l .head .nb) (l .head .ne) (l .head .p) (here t) y) (DeskRule l y)
+  Desk-told t y = Tells (deskObeys (l .head .nb) (l .head .ne) (l .head .p) (here l t) y) (DeskRule l y)
 
   looked-told : (s : Spot) → Desk-told (s .turn) (looked s)
   looked-told s = told (le and lt and (current-told (s .turn) implies lt)) (λ h. (h .0 .0, h .0 .1, h .1)) (λ r. ((r .0, r .1), r .2))
@@ -135,7 +133,7 @@ module _ (l : Line) (pos : 0 < l .head .nb) where
       by-test (Desk-told (x .turn)) (eqb (x .stage) 2) (λ _. holding-told h) (λ _.
       by-test (Desk-told (x .turn)) (eqb (x .stage) 3) (λ _. holding-told (withFetched h)) (λ _. itself)))
 
-  stage-told : (x : LentDesk) → Tells (leb (x .stage) 3 && deskObeys (l .head .nb) (l .head .ne) (l .head .p) (here (x .turn)) (deskOf x)) ((x .stage ≤ 3) × DeskRule l (deskOf x))
+  stage-told : (x : LentDesk) → Tells (leb (x .stage) 3 && deskObeys (l .head .nb) (l .head .ne) (l .head .p) (here l (x .turn)) (deskOf x)) ((x .stage ≤ 3) × DeskRule l (deskOf x))
   stage-told x = le and desk-told x
 
   rule3-told : Tells (holds l 64 rule3) (Rule3 l)
@@ -289,6 +287,15 @@ module _ (l : Line) where
   pub broken-unsound : (place rule : ℕ) → FirstBroken l place rule → Sound l → ⊥
   broken-unsound place rule f s = f .is-broken (every-in (f .before) (f .behind) (f .named) (subst Every (f .order) (sound-every s)))
 
+  -- the questions x are obeyed, and q behind them is not
+  names : Fit → (x y : List RuleAt) (q : RuleAt) → ((u v : List RuleAt) (a : RuleAt) → x ≡ u ++ (a ∷ v) → Obeys l a) → (Obeys l q → ⊥)
+      → firstBroken l (x ++ (q ∷ y)) ≡ broken (q .place) (ruleNumber (q .rule))
+  unfolding firstBroken
+  names t [] y q h n = choose-false (holds l (q .place) (q .rule)) _ _ (isnt (rule-told l (blocks l t) (q .place) (q .rule)) .from n)
+  names t (p ∷ x) y q h n =
+      choose-true (holds l (p .place) (p .rule)) _ _ (rule-told l (blocks l t) (p .place) (p .rule) .from (h [] x p refl))
+      ∙ names t x y q (λ u v a e. h (p ∷ u) v a (ap (λ (qs : List RuleAt). p ∷ qs) e)) n
+
   says-sound : (c : Checked) → Says c → Fit → Sound l → c ≡ sound
   says-sound sound h t s = refl
   says-sound unfit h t s = absurd (h t)
@@ -310,3 +317,9 @@ check-sound l = (λ e. subst (Says l) e (checked l), λ h. says-sound l (check l
 pub check-broken : CheckBroken
 unfolding CheckBroken
 check-broken l place rule e = subst (Says l) e (checked l)
+
+pub check-names : CheckNames
+unfolding CheckNames check
+check-names l place rule t f =
+    choose-true (fit (sizeOf (l .head)) (l .table) (l .entries)) _ _ t ∙ ap (firstBroken l) (f .order)
+    ∙ names l t (f .before) (f .behind) (f .named) (f .none-before) (f .is-broken) ∙ ap₂ broken (f .there) (f .number)

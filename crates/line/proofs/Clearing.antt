@@ -12,7 +12,7 @@ use Rattle.words.specs.declared.Answer.{Answer}
 use Rattle.words.specs.declared.Answer.the-variants.{Done}
 use Rattle.book.specs.Choice.{if_then_else_}
 use Rattle.book.specs.Sizes.{Size, fits}
-use Rattle.book.specs.Steps.{Step, Desk, idle, looked, Hold, holding, claimedAt, withFetched, isFetched, holdOf}
+use Rattle.book.specs.Steps.{Step, Desk, idle, looked, holding}
 use Rattle.book.specs.Counts.{unfetched, waiting}
 use Rattle.book.specs.Book as B
 use Rattle.book.specs.Messages.{put, get}

@@ -1,13 +1,11 @@
 -- What a desk's step leaves of the line. The step writes one desk and one record back (`withMoved`); where it changed neither, the
 -- line is as it was. So each of the four steps is told by what it changes.
-use mathlib.Core.Path.{_≡_, refl, ap, _∙_}
-use mathlib.Core.Bool.{Bool, not, _&&_}
-use mathlib.Core.List.{List}
+use mathlib.Core.Path.{_≡_, refl}
+use mathlib.Core.Bool.{Bool, not}
 use Prim.Native.Nat.{ℕ}
 use lib.ListN.{getD, set}
 use lib.Seq.{set-getD}
 use Rattle.words.specs.declared.Answer.the-variants.{Took, Seen, Claimed, Done, Refused}
-use Rattle.words.specs.declared.Refusal.{Refusal}
 use Rattle.words.specs.declared.Refusal.the-variants.{Lost}
 use Rattle.book.specs.Choice.{if_then_else_, _≡ᵇ_}
 use Rattle.book.specs.Sizes.{Size, blockOf, currentTurn}
@@ -17,7 +15,7 @@ use Rattle.book.specs.declared.Verdict.the-variants.{Takes as takes, Refuses as
 use Rattle.book.specs.Steps.{Hold, Desk, idle, looked, holding, claimedAt, withFetched}
 use Rattle.book.specs.Verdicts.{judge, lookable}
 use Rattle.book.proofs.Choice.{cases, T→true, not→false}
-use Rattle.line.specs.Line.{Line, Head, Block, LentDesk, Spot, Outcome, Moved, numbersOf, says, refuse, withDesk, withHead, unused, oneClaimed, oneFinished}
+use Rattle.line.specs.Line.{Line, Head, Block, Spot, Outcome, numbersOf, says, refuse, withDesk, withHead, unused, oneClaimed, oneFinished}
 use Rattle.line.specs.Line.{recordOf, labelAt, moved, lookOf, wins, claimOf, movedBy, withMoved, deskDoes}
 
 module _ (z : Size) (l : Line) where

@@ -9,20 +9,13 @@ use native.Mathlib.Nat.{le-refl}
 use native.Mathlib.Omega.{arith}
 use lib.Dec.{T, T-not, ltb→lt, nltb→le}
 use Rattle.book.specs.Choice.{_<ᵇ_, _≡ᵇ_}
-use Rattle.book.specs.Sizes.{Size}
-use Rattle.book.proofs.Choice.{by-test, cases, and-in, and-second, eq→eqb, ge→false, by-order}
-use Rattle.line.specs.Line.{Line, Block, Spot, sizeOf, recordOf, takenOver, reach}
+use Rattle.book.proofs.Choice.{cases, and-in, and-second, eq→eqb, ge→false, by-order}
+use Rattle.line.specs.Line.{Line, Spot, takenOver, reach, sizeIn, here}
 use Rattle.line.specs.Rules.{Sound}
 use Rattle.line.proofs.Onward.{by-moves}
 use Rattle.line.proofs.Cells.{Cell, cell}
 
 module _ (l : Line) where
-  abbrev z : Size
-  z = sizeOf (l .head)
-
-  abbrev here : ℕ → Block
-  here t = recordOf z (l .table) t
-
   abbrev P : ℕ
   P = l .head .p
 
@@ -31,21 +24,21 @@ module _ (l : Line) where
   reading = record { turn = l .head .k; place = l .head .reading }
 
   abbrev pub reached : Spot
-  reached = reach z (l .head .nb - 1) (l .table) P reading
+  reached = reach (sizeIn l) (l .head .nb - 1) (l .table) P reading
 
   -- a label is read at spot r; no label waits at spot s or in the turns after it
   abbrev pub isRead : Spot → Bool
-  isRead r = r .place <ᵇ (here (r .turn)) .written
+  isRead r = r .place <ᵇ (here l (r .turn)) .written
 
   abbrev pub NoneFrom : Spot → Type 0
-  NoneFrom s = (s .place ≡ (here (s .turn)) .written) × ((t : ℕ) → s .turn < t → t ≤ P → (here t) .claimed ≡ (here t) .written)
+  NoneFrom s = (s .place ≡ (here l (s .turn)) .written) × ((t : ℕ) → s .turn < t → t ≤ P → (here l t) .claimed ≡ (here l t) .written)
 
   -- the end of turn P
   abbrev spot : ℕ → ℕ → Spot
   spot t q = record { turn = t; place = q }
 
   abbrev pub end : Spot
-  end = spot P ((here P) .written)
+  end = spot P ((here l P) .written)
 
   abbrev AtEnd : Spot → Type 0
   AtEnd r = T (not (isRead r)) → r ≡ end
@@ -56,18 +49,18 @@ module _ (l : Line) where
   -- ---- one spot
 
   at-once : (s : Spot) → T (isRead s) → Ends s s
-  at-once s b = let h = ltb→lt (s .place) ((here (s .turn)) .written) b in (λ f. absurd (T-not (isRead s) f b), λ x. absurd (omega (arith, x .0)))
+  at-once s b = let h = ltb→lt (s .place) ((here l (s .turn)) .written) b in (λ f. absurd (T-not (isRead s) f b), λ x. absurd (omega (arith, x .0)))
 
-  at-last : (s : Spot) → s .place ≤ (here (s .turn)) .written → P ≤ s .turn → Ends s s
+  at-last : (s : Spot) → s .place ≤ (here l (s .turn)) .written → P ≤ s .turn → Ends s s
   at-last s h k =
-      let w = (here (s .turn)) .written in
+      let w = (here l (s .turn)) .written in
       (λ f. (omega (arith, nltb→le (s .place) w f), λ t a b. absurd (omega arith)), λ x. rw (ge→false (s .place) w (omega (arith, x .0))) tt)
 
   -- the next turn's spot
   abbrev onward : Spot → Spot
-  onward s = takenOver z (l .table) s
+  onward s = takenOver (sizeIn l) (l .table) s
 
-  moved : (s r : Spot) → s .place ≡ (here (s .turn)) .written → s .turn < P → Ends (onward s) r → Ends s r
+  moved : (s r : Spot) → s .place ≡ (here l (s .turn)) .written → s .turn < P → Ends (onward s) r → Ends s r
   moved s r e h x = (
     λ f. let (q, c) = x .0 f in (e, λ t a b. by-order t (suc (s .turn)) (λ y. absurd (omega arith)) (λ y. rw y q) (λ y. c t y b)),
     λ n. let c = n .1 in x .1 (c (suc (s .turn)) (omega arith) h, λ t a. c t (omega arith)),
@@ -80,7 +73,7 @@ module _ (l : Line) where
     from : l .head .k ≤ s .turn
     to : s .turn ≤ P
     enough : P ≤ s .turn + n
-    place : s .place ≤ (here (s .turn)) .written
+    place : s .place ≤ (here l (s .turn)) .written
 
   module _ (pos : 0 < l .head .nb) (g : Sound l) where
     of-turn : (t : ℕ) → l .head .k ≤ t → t ≤ P → Cell l t
@@ -95,7 +88,7 @@ module _ (l : Line) where
     }
 
     -- below turn P a record is full
-    is-last : (n : ℕ) (s : Spot) → Reads n s → s .place ≡ (here (s .turn)) .written → T (not (s .place ≡ᵇ l .head .ne && s .turn <ᵇ P)) → P ≤ s .turn
+    is-last : (n : ℕ) (s : Spot) → Reads n s → s .place ≡ (here l (s .turn)) .written → T (not (s .place ≡ᵇ l .head .ne && s .turn <ᵇ P)) → P ≤ s .turn
     is-last n s r e f =
         let full = s .place ≡ᵇ l .head .ne in
         let below = s .turn <ᵇ P in
@@ -105,16 +98,16 @@ module _ (l : Line) where
         (nltb→le (s .turn) P)
 
     -- nothing is left to read in its turn
-    read-out : {n : ℕ} (s : Spot) → Reads n s → T (not (isRead s)) → s .place ≡ (here (s .turn)) .written
-    read-out s r b = omega (arith, nltb→le (s .place) ((here (s .turn)) .written) b, r .place)
+    read-out : {n : ℕ} (s : Spot) → Reads n s → T (not (isRead s)) → s .place ≡ (here l (s .turn)) .written
+    read-out s r b = omega (arith, nltb→le (s .place) ((here l (s .turn)) .written) b, r .place)
 
-    reach-ends : (n : ℕ) (s : Spot) → Reads n s → Ends s (reach z n (l .table) P s)
+    reach-ends : (n : ℕ) (s : Spot) → Reads n s → Ends s (reach (sizeIn l) n (l .table) P s)
     unfolding reach
     reach-ends zero s r = at-last s (r .place) (omega (arith, r .enough))
     reach-ends (suc n) s r =
         let full = s .place ≡ᵇ l .head .ne in
         let below = s .turn <ᵇ P in
-        by-moves z P (here (s .turn)) s (Ends s) (at-once s)
+        by-moves (sizeIn l) P (here l (s .turn)) s (Ends s) (at-once s)
         (λ b m. let h = ltb→lt (s .turn) P (and-second full below m) in moved s _ (read-out s r b) h (reach-ends n (onward s) (goes-on n s r h)))
         (λ b m. at-last s (r .place) (is-last (suc n) s r (read-out s r b) m))
 
@@ -130,15 +123,15 @@ module _ (l : Line) where
     at-end n s r h f =
         let t : s .turn ≡ P = omega (arith, r .to) in
         let q = read-out s r f in
-        ap₂ (λ (i j : ℕ). spot i j) t (q ∙ ap (λ (i : ℕ). (here i) .written) t)
+        ap₂ (λ (i j : ℕ). spot i j) t (q ∙ ap (λ (i : ℕ). (here l i) .written) t)
 
-    reach-end : (n : ℕ) (s : Spot) → Reads n s → T (not (isRead (reach z n (l .table) P s))) → reach z n (l .table) P s ≡ end
+    reach-end : (n : ℕ) (s : Spot) → Reads n s → T (not (isRead (reach (sizeIn l) n (l .table) P s))) → reach (sizeIn l) n (l .table) P s ≡ end
     unfolding reach
     reach-end zero s r = at-end zero s r (omega (arith, r .enough))
     reach-end (suc n) s r =
         let full = s .place ≡ᵇ l .head .ne in
         let below = s .turn <ᵇ P in
-        by-moves z P (here (s .turn)) s AtEnd (λ b f. absurd (T-not (isRead s) f b))
+        by-moves (sizeIn l) P (here l (s .turn)) s AtEnd (λ b f. absurd (T-not (isRead s) f b))
         (λ b m. reach-end n (onward s) (goes-on n s r (ltb→lt (s .turn) P (and-second full below m))))
         (λ b m. at-end (suc n) s r (is-last (suc n) s r (read-out s r b) m))
 

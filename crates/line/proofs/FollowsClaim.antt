@@ -13,13 +13,13 @@ use lib.Dec.{T, ltb, leb, eqb, ltb→lt, lt→ltb, nltb→le, nleb→lt, eqb→e
 use lib.ListN.{length, set}
 use lib.Arith.{lt→nleb, le→nltb, digits-mod}
 use Rattle.words.specs.declared.Answer.the-variants.{Claimed}
-use Rattle.book.specs.Sizes.{Size, blockOf, currentTurn, isOwned}
-use Rattle.book.specs.Steps.{idle, looked, Hold, holding, claimedAt, withFetched, isFetched, holdOf}
+use Rattle.book.specs.Sizes.{blockOf, currentTurn, isOwned}
+use Rattle.book.specs.Steps.{idle, looked, holding, claimedAt}
 use Rattle.book.specs.Book.{Book, rowAt, rowOf, markGone}
 use Rattle.book.specs.Book as B
 use Rattle.book.proofs.Choice.{by-test₂, same-test, eq→eqb, le→true, and-first, and-second, and-in}
 use Rattle.book.proofs.Rows.{written-is, row-turn, mark-length, mark-label}
-use Rattle.line.specs.Line.{Line, Block, Spot, deskAt, sizeOf, oneClaimed, recordOf}
+use Rattle.line.specs.Line.{Line, Block, Spot, deskAt, sizeOf, oneClaimed, recordOf, sizeIn}
 use Rattle.line.specs.Line as L
 use Rattle.line.specs.Agrees.{front, Agrees}
 use Rattle.line.proofs.DeskMoves.{winnable, claimStep}
@@ -34,117 +34,111 @@ and-swap true b c e = e tt ∙ sym (and-true c)
 and-swap false b c e = sym (and-false c)
 
 module _ (l : Line) (b : Book) (g : Agrees (sizeOf (l .head)) l b) (d : ℕ) (h : d < l .head .t) (s : Spot) (e : deskAt (l .head) d ≡ looked s) where
-  abbrev z : Size
-  z = sizeOf (l .head)
-
   abbrev p : ℕ
   p = l .head .p
-
-  abbrev k : ℕ
-  k = l .head .k
 
   abbrev t : ℕ
   t = s .turn
 
   abbrev c : Block
-  c = recordOf z (l .table) t
+  c = recordOf (sizeIn l) (l .table) t
 
   abbrev row : ℕ
-  row = rowOf z t (s .place)
+  row = rowOf (sizeIn l) t (s .place)
 
   low : t ≤ p
   low = rule l b g d (looked s) e .0
 
-  fits : s .place < z .ne
+  fits : s .place < l .head .ne
   fits = rule l b g d (looked s) e .1
 
   -- ---- the line's test is the book's
 
   abbrev isCurrent : Bool
-  isCurrent = eqb (currentTurn z p (blockOf z t)) t
+  isCurrent = eqb (currentTurn (sizeIn l) p (blockOf (sizeIn l) t)) t
 
   abbrev isFree : Bool
-  isFree = not (isOwned z p k (blockOf z t))
+  isFree = not (isOwned (sizeIn l) p (l .head .k) (blockOf (sizeIn l) t))
 
   abbrev isStill : Bool
   isStill = eqb (c .claimed) (s .place)
 
   -- the turn seen is current and not owned exactly above K
-  above-test : (isCurrent && isFree) ≡ ltb k t
+  above-test : (isCurrent && isFree) ≡ ltb (l .head .k) t
   unfolding isOwned
   above-test =
-      let u = currentTurn z p (blockOf z t) in
-      rw (le→true (blockOf z t) p (omega (arith, low, mod-le t (z .nb))))
-      (same-test (isCurrent && not (leb u k)) (ltb k t)
-      (λ x. let i = eqb→eq u t (and-first isCurrent (not (leb u k)) x) in
-      lt→ltb k t (omega (arith, nleb→lt u k (and-second isCurrent (not (leb u k)) x))))
-      (λ x. let i = ltb→lt k t x in
-      rw (window→current z p t (pos l b g) (near l b g t (omega arith) low)) (and-in (eqb t t) (not (leb t k)) (eqb-refl t) (lt→nleb t k i))))
+      let u = currentTurn (sizeIn l) p (blockOf (sizeIn l) t) in
+      rw (le→true (blockOf (sizeIn l) t) p (omega (arith, low, mod-le t (l .head .nb))))
+      (same-test (isCurrent && not (leb u (l .head .k))) (ltb (l .head .k) t)
+      (λ x. let i = eqb→eq u t (and-first isCurrent (not (leb u (l .head .k))) x) in
+      lt→ltb (l .head .k) t (omega (arith, nleb→lt u (l .head .k) (and-second isCurrent (not (leb u (l .head .k))) x))))
+      (λ x. let i = ltb→lt (l .head .k) t x in
+      rw (window→current (sizeIn l) p t (pos l b g) (near l b g t (omega arith) low)) (and-in (eqb t t) (not (leb t (l .head .k))) (eqb-refl t) (lt→nleb t (l .head .k) i))))
 
   -- and there the row waits exactly if claimed is still the place
-  still-test : k < t → isStill ≡ not ((rowAt (b .rows) row) .gone)
+  still-test : l .head .k < t → isStill ≡ not ((rowAt (b .rows) row) .gone)
   still-test i =
-      rw (g .marks t (s .place) fits, front-above z l t i low)
+      rw (g .marks t (s .place) fits, front-above (sizeIn l) l t i low)
       (same-test isStill (not (ltb (s .place) (c .claimed)))
       (λ x. le→nltb (s .place) (c .claimed) (omega (arith, eqb→eq (c .claimed) (s .place) x)))
       (λ x. eq→eqb (c .claimed) (s .place) (omega (arith, g .looks d s e i, nltb→le (s .place) (c .claimed) x))))
 
-  win-test : winnable z l s ≡ B.winnable z (b .rows) (b .k) row
+  win-test : winnable (sizeIn l) l s ≡ B.winnable (sizeIn l) (b .rows) (b .k) row
   unfolding winnable L.wins B.winnable
   win-test =
-      rw (above-test, row-turn z t (s .place) fits, g .turn)
-      (and-swap (ltb k t) isStill (not ((rowAt (b .rows) row) .gone)) (λ i. still-test (ltb→lt k t i)))
+      rw (above-test, row-turn (sizeIn l) t (s .place) fits, g .turn)
+      (and-swap (ltb (l .head .k) t) isStill (not ((rowAt (b .rows) row) .gone)) (λ i. still-test (ltb→lt (l .head .k) t i)))
 
   -- ---- a claim that is won
 
-  module _ (w : T (winnable z l s)) where
-    above : k < t
+  module _ (w : T (winnable (sizeIn l) l s)) where
+    above : l .head .k < t
     unfolding winnable L.wins
-    above = ltb→lt k t (rw above-test at (and-first (isCurrent && isFree) isStill w))
+    above = ltb→lt (l .head .k) t (rw above-test at (and-first (isCurrent && isFree) isStill w))
 
     still : c .claimed ≡ s .place
     unfolding winnable L.wins
     still = eqb→eq (c .claimed) (s .place) (and-second (isCurrent && isFree) isStill w)
 
-    window : Window z p t
+    window : Window (sizeIn l) p t
     window = near l b g t (omega (arith, above)) low
 
     on-list : row < length (b .rows)
     on-list =
-        let i = rule l b g d (looked s) e .2 (window→current z p t (pos l b g) window) in
-        omega (arith, i, written-same l b g t window, written-is z (b .rows) t)
+        let i = rule l b g d (looked s) e .2 (window→current (sizeIn l) p t (pos l b g) window) in
+        omega (arith, i, written-same l b g t window, written-is (sizeIn l) (b .rows) t)
 
     abbrev tb : List Block
-    tb = set (l .table) (blockOf z t) (oneClaimed c)
+    tb = set (l .table) (blockOf (sizeIn l) t) (oneClaimed c)
 
     abbrev m : Line
     m = changed l b g d h (holding (claimedAt s)) tb
 
-    kept : (u : ℕ) → Window z p u
-        → ((recordOf z tb u) .written ≡ (recordOf z (l .table) u) .written) × ((recordOf z (l .table) u) .claimed ≤ (recordOf z tb u) .claimed)
+    kept : (u : ℕ) → Window (sizeIn l) p u
+        → ((recordOf (sizeIn l) tb u) .written ≡ (recordOf (sizeIn l) (l .table) u) .written) × ((recordOf (sizeIn l) (l .table) u) .claimed ≤ (recordOf (sizeIn l) tb u) .claimed)
     kept =
-        each-turn z (l .table) p t (oneClaimed c) (pos l b g) (blocks-of z l (g .lawful)) window
-        (λ u x. (x .written ≡ (recordOf z (l .table) u) .written) × ((recordOf z (l .table) u) .claimed ≤ x .claimed)) (refl, omega arith) (λ u _ _. (refl, le-refl ((recordOf z (l .table) u) .claimed)))
+        each-turn (sizeIn l) (l .table) p t (oneClaimed c) (pos l b g) (blocks-of (sizeIn l) l (g .lawful)) window
+        (λ u x. (x .written ≡ (recordOf (sizeIn l) (l .table) u) .written) × ((recordOf (sizeIn l) (l .table) u) .claimed ≤ x .claimed)) (refl, omega arith) (λ u _ _. (refl, le-refl ((recordOf (sizeIn l) (l .table) u) .claimed)))
 
-    front-won : front z m t ≡ suc (s .place)
+    front-won : front (sizeIn l) m t ≡ suc (s .place)
     front-won =
-        front-above z m t above low
-        ∙ ap (λ (x : Block). x .claimed) (record-same z (l .table) t (oneClaimed c) (pos l b g) (blocks-of z l (g .lawful))) ∙ ap suc still
+        front-above (sizeIn l) m t above low
+        ∙ ap (λ (x : Block). x .claimed) (record-same (sizeIn l) (l .table) t (oneClaimed c) (pos l b g) (blocks-of (sizeIn l) l (g .lawful))) ∙ ap suc still
 
-    front-other : (u : ℕ) → u ≢ t → front z m u ≡ front z l u
+    front-other : (u : ℕ) → u ≢ t → front (sizeIn l) m u ≡ front (sizeIn l) l u
     front-other u n =
-        front-same z l m u refl refl refl
-        (λ a i. ap (λ (x : Block). x .claimed) (record-apart z (l .table) t (oneClaimed c) p u window (near l b g u (omega arith) i) n))
+        front-same (sizeIn l) l m u refl refl refl
+        (λ a i. ap (λ (x : Block). x .claimed) (record-apart (sizeIn l) (l .table) t (oneClaimed c) p u window (near l b g u (omega arith) i) n))
 
-    won-matches : Matches z m (record { rows = markGone (b .rows) row; k = b .k; desks = set (b .desks) d (holding (claimedAt row)) })
+    won-matches : Matches (sizeIn l) m (record { rows = markGone (b .rows) row; k = b .k; desks = set (b .desks) d (holding (claimedAt row)) })
     won-matches =
         desk-matches l b g d h (holding (claimedAt s)) tb (markGone (b .rows) row) kept (sees-not l b g tb (holding (claimedAt s)) (λ x. x))
         (mark-length (b .rows) row) (λ n. mark-label (b .rows) row n on-list)
-        (mark-front z (b .rows) (front z l) (front z m) t (s .place) fits on-list (front-above z l t above low ∙ still) front-won front-other (g .marks))
+        (mark-front (sizeIn l) (b .rows) (front (sizeIn l) l) (front (sizeIn l) m) t (s .place) fits on-list (front-above (sizeIn l) l t above low ∙ still) front-won front-other (g .marks))
 
-  pub claim-follows : Follows z (claimStep z l d s) (B.claimStep z b d row)
+  pub claim-follows : Follows (sizeIn l) (claimStep (sizeIn l) l d s) (B.claimStep (sizeIn l) b d row)
   unfolding claimStep B.claimStep
   claim-follows =
-      by-test₂ (Follows z) (winnable z l s) (B.winnable z (b .rows) (b .k) row) win-test
+      by-test₂ (Follows (sizeIn l)) (winnable (sizeIn l) l s) (B.winnable (sizeIn l) (b .rows) (b .k) row) win-test
       (λ w. record { same = ap Claimed (sym (digits-mod t fits)); matches = won-matches w })
       (λ _. record { same = refl; matches = alone-matches l b g d h idle (sees-not l b g (l .table) idle (λ x. x)) })

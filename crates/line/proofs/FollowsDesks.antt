@@ -21,7 +21,7 @@ use Rattle.book.specs.Book.{Book, rowOf, waits}
 use Rattle.book.specs.Book as B
 use Rattle.book.proofs.Choice.{same-test, neq-test, by-test}
 use Rattle.book.proofs.Turns.{current-low, current-high}
-use Rattle.line.specs.Line.{Line, Block, Spot, nowhere, deskAt, sizeOf, oneFinished, recordOf, deskDoes, deskStep}
+use Rattle.line.specs.Line.{Line, Spot, nowhere, deskAt, sizeOf, oneFinished, deskDoes, deskStep, sizeIn, here}
 use Rattle.line.specs.Agrees.{asRow, Agrees}
 use Rattle.line.proofs.DeskMoves.{lookStep, fetchStep, finishStep, does-look, does-claim, does-fetch, does-finish}
 use Rattle.line.proofs.Current.{Window, each-turn}
@@ -49,44 +49,35 @@ held-not : (x : Hold Spot) (n : ℕ) → atStage 2 n ≡ refuses Stage → atSta
 held-not x n c f = by-test (λ m. atStage m n ≡ takes → ⊥) (isFetched x) (λ _ t. refuses-not Stage (sym f ∙ t)) (λ _ t. refuses-not Stage (sym c ∙ t))
 
 module _ (l : Line) (b : Book) (g : Agrees (sizeOf (l .head)) l b) where
-  abbrev z : Size
-  z = sizeOf (l .head)
-
   abbrev p : ℕ
   p = l .head .p
 
-  abbrev k : ℕ
-  k = l .head .k
-
-  abbrev here : ℕ → Block
-  here t = recordOf z (l .table) t
-
-  module _ (d : ℕ) (h : d < z .t) where
+  module _ (d : ℕ) (h : d < l .head .t) where
     -- ---- look
 
     module _ (i : ℕ) where
       abbrev t : ℕ
-      t = currentTurn z p i
+      t = currentTurn (sizeIn l) p i
 
       abbrev isOpen : Bool
-      isOpen = not (eqb ((here t) .claimed) ((here t) .written))
+      isOpen = not (eqb ((here l t) .claimed) ((here l t) .written))
 
-      look-verdict : lookable z p k i isOpen ≡ lookable z p (b .k) i (waits z (b .rows) t)
+      look-verdict : lookable (sizeIn l) p (l .head .k) i isOpen ≡ lookable (sizeIn l) p (b .k) i (waits (sizeIn l) (b .rows) t)
       unfolding waits
       look-verdict =
-          rw (g .turn) (lookable-same z p k i isOpen (waits z (b .rows) t) (λ u a.
-          let w : Window z p t = record { low = current-low z p i; high = current-high z p i (pos l b g) u } in
-          rw (first-above l b g t a (w .low), written-same l b g t w) (open-test ((here t) .claimed) ((here t) .written) (current l b g t w .claims))))
+          rw (g .turn) (lookable-same (sizeIn l) p (l .head .k) i isOpen (waits (sizeIn l) (b .rows) t) (λ u a.
+          let w : Window (sizeIn l) p t = record { low = current-low (sizeIn l) p i; high = current-high (sizeIn l) p i (pos l b g) u } in
+          rw (first-above l b g t a (w .low), written-same l b g t w) (open-test ((here l t) .claimed) ((here l t) .written) (current l b g t w .claims))))
 
-      look-follows : Follows z (lookStep z l d i) (B.lookStep z b d i)
+      look-follows : Follows (sizeIn l) (lookStep (sizeIn l) l d i) (B.lookStep (sizeIn l) b d i)
       unfolding lookStep B.lookStep
       look-follows =
           rw (put-turn l b g)
-          (by-verdict₂ (Follows z) (lookable z p k i isOpen) (lookable z p (b .k) i (waits z (b .rows) t)) look-verdict
-          (λ e. let s : Spot = record { turn = t; place = (here t) .claimed } in
-          rw (first-above l b g t (lookable-takes z p k i isOpen e .1) (current-low z p i))
-          (record { same = refl; matches = alone-matches l b g d h (looked s) (sees-place l b g (l .table) s (le-refl ((here t) .claimed))) }))
-          (λ w. stays z l b g (Refused w 0)))
+          (by-verdict₂ (Follows (sizeIn l)) (lookable (sizeIn l) p (l .head .k) i isOpen) (lookable (sizeIn l) p (b .k) i (waits (sizeIn l) (b .rows) t)) look-verdict
+          (λ e. let s : Spot = record { turn = t; place = (here l t) .claimed } in
+          rw (first-above l b g t (lookable-takes (sizeIn l) p (l .head .k) i isOpen e .1) (current-low (sizeIn l) p i))
+          (record { same = refl; matches = alone-matches l b g d h (looked s) (sees-place l b g (l .table) s (le-refl ((here l t) .claimed))) }))
+          (λ w. stays (sizeIn l) l b g (Refused w 0)))
 
     -- ---- fetch and finish
 
@@ -95,9 +86,9 @@ module _ (l : Line) (b : Book) (g : Agrees (sizeOf (l .head)) l b) where
       s = x .at
 
       abbrev y : Hold ℕ
-      y = record { at = rowOf z (s .turn) (s .place); fetched = x .fetched }
+      y = record { at = rowOf (sizeIn l) (s .turn) (s .place); fetched = x .fetched }
 
-      fetch-follows : Follows z (fetchStep z l d x) (B.fetchStep z b d y)
+      fetch-follows : Follows (sizeIn l) (fetchStep (sizeIn l) l d x) (B.fetchStep (sizeIn l) b d y)
       unfolding fetchStep B.fetchStep
       fetch-follows =
           let r = rule l b g d (holding x) e in
@@ -107,41 +98,41 @@ module _ (l : Line) (b : Book) (g : Agrees (sizeOf (l .head)) l b) where
             matches = alone-matches l b g d h (holding (withFetched x)) (sees-not l b g (l .table) (holding (withFetched x)) (λ x. x));
           }
 
-      finish-follows : Follows z (finishStep z l d x) (B.finishStep z b d)
+      finish-follows : Follows (sizeIn l) (finishStep (sizeIn l) l d x) (B.finishStep (sizeIn l) b d)
       unfolding finishStep B.finishStep
       finish-follows =
           let w = held-current l b g x (rule l b g d (holding x) e) in
-          let c = oneFinished (here (s .turn)) in
-          let tb = set (l .table) (blockOf z (s .turn)) c in
+          let c = oneFinished (here l (s .turn)) in
+          let tb = set (l .table) (blockOf (sizeIn l) (s .turn)) c in
           record {
             same = refl;
             matches = quiet-matches l b g d h idle tb
-                (each-turn z (l .table) p (s .turn) c (pos l b g) (blocks-of z l (g .lawful)) w
-                (λ u x. (x .written ≡ (here u) .written) × (x .claimed ≡ (here u) .claimed)) (refl, refl) (λ u _ _. (refl, refl)))
+                (each-turn (sizeIn l) (l .table) p (s .turn) c (pos l b g) (blocks-of (sizeIn l) l (g .lawful)) w
+                (λ u x. (x .written ≡ (here l u) .written) × (x .claimed ≡ (here l u) .claimed)) (refl, refl) (λ u _ _. (refl, refl)))
                 (sees-not l b g tb idle (λ x. x));
           }
 
     -- ---- the step that the grid lets the desk take
 
     does-follows : (s : DeskStep) (x : Desk Spot) → deskAt (l .head) d ≡ x → atStage (stage x) (column s) ≡ takes
-        → Follows z (deskDoes z l d (holdOf nowhere x) s) (B.deskDoes z b d (holdOf 0 (asRow z x)) s)
+        → Follows (sizeIn l) (deskDoes (sizeIn l) l d (holdOf nowhere x) s) (B.deskDoes (sizeIn l) b d (holdOf 0 (asRow (sizeIn l) x)) s)
     unfolding B.deskDoes
-    does-follows (look i) x e t = rw (does-look z l d (holdOf nowhere x) i) (look-follows i)
+    does-follows (look i) x e t = rw (does-look (sizeIn l) l d (holdOf nowhere x) i) (look-follows i)
     does-follows claim idle e t = absurd (refuses-not Stage t)
-    does-follows claim (looked s) e t = rw (does-claim z l d (claimedAt s)) (claim-follows l b g d h s e)
+    does-follows claim (looked s) e t = rw (does-claim (sizeIn l) l d (claimedAt s)) (claim-follows l b g d h s e)
     does-follows claim (holding x) e t = absurd (held-not x 1 refl refl t)
     does-follows fetch idle e t = absurd (refuses-not Stage t)
     does-follows fetch (looked s) e t = absurd (refuses-not Stage t)
-    does-follows fetch (holding x) e t = rw (does-fetch z l d x) (fetch-follows x e)
+    does-follows fetch (holding x) e t = rw (does-fetch (sizeIn l) l d x) (fetch-follows x e)
     does-follows finish idle e t = absurd (refuses-not Stage t)
     does-follows finish (looked s) e t = absurd (refuses-not Stage t)
-    does-follows finish (holding x) e t = rw (does-finish z l d x) (finish-follows x e)
+    does-follows finish (holding x) e t = rw (does-finish (sizeIn l) l d x) (finish-follows x e)
 
-  pub desk-follows : (d : ℕ) (s : DeskStep) → Follows z (deskStep z l d s (deskAt (l .head) d)) (B.deskStep z b d s (B.deskAt b d))
+  pub desk-follows : (d : ℕ) (s : DeskStep) → Follows (sizeIn l) (deskStep (sizeIn l) l d s (deskAt (l .head) d)) (B.deskStep (sizeIn l) b d s (B.deskAt b d))
   unfolding deskStep B.deskStep
   desk-follows d s =
       let x = deskAt (l .head) d in
       rw (desk-same l b g d)
-      (by-verdict₂ (Follows z) (admitted z d s x) (admitted z d s (asRow z x)) (admitted-same z d s x)
-      (λ e. let a = admitted-takes z d s x e in does-follows d (a .0) s x refl (a .1))
-      (λ w. stays z l b g (Refused w 0)))
+      (by-verdict₂ (Follows (sizeIn l)) (admitted (sizeIn l) d s x) (admitted (sizeIn l) d s (asRow (sizeIn l) x)) (admitted-same (sizeIn l) d s x)
+      (λ e. let a = admitted-takes (sizeIn l) d s x e in does-follows d (a .0) s x refl (a .1))
+      (λ w. stays (sizeIn l) l b g (Refused w 0)))

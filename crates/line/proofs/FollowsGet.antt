@@ -16,7 +16,7 @@ use Rattle.book.specs.Book.{Row, Book, rowAt, rowOf, markGone, written, first, 
 use Rattle.book.specs.Book as B
 use Rattle.book.proofs.Choice.{by-test, by-test₂, cases, choose-same, T→true, not→false, neq-test, eq→eqb, lt→true, ge→false, and-false}
 use Rattle.book.proofs.Rows.{first-fits, first-in, read-from, read-to, mark-length, mark-label}
-use Rattle.line.specs.Line.{Line, Block, Spot, sizeOf, withHead, getAt, recordOf, reach, readAt, getStep}
+use Rattle.line.specs.Line.{Line, Spot, sizeOf, withHead, getAt, reach, readAt, getStep, sizeIn, here}
 use Rattle.line.specs.Agrees.{front, Agrees}
 use Rattle.line.proofs.Onward.{moves-by}
 use Rattle.line.proofs.Front.{Matches, Follows, front-below, front-here, front-above, front-past, front-is, mark-front}
@@ -33,50 +33,41 @@ read-skips z (suc n) rs t u h =
     (λ s. let d = neq-test t u s in read-skips z n rs (suc t) u (omega arith) i))
 
 module _ (l : Line) (b : Book) (g : Agrees (sizeOf (l .head)) l b) where
-  abbrev z : Size
-  z = sizeOf (l .head)
-
   abbrev p : ℕ
   p = l .head .p
-
-  abbrev k : ℕ
-  k = l .head .k
-
-  abbrev here : ℕ → Block
-  here t = recordOf z (l .table) t
 
   -- ---- both read at one spot
 
   abbrev place : ℕ → ℕ
-  place t = first z (b .rows) t
+  place t = first (sizeIn l) (b .rows) t
 
   abbrev waiting : ℕ → Bool
-  waiting t = waits z (b .rows) t
+  waiting t = waits (sizeIn l) (b .rows) t
 
   abbrev spot : ℕ → Spot
   spot t = record { turn = t; place = place t }
 
   -- below P, a turn in which no row waits is read to its end
-  ends : (t : ℕ) → t < p → T (not (waiting t)) → place t ≡ z .ne
+  ends : (t : ℕ) → t < p → T (not (waiting t)) → place t ≡ l .head .ne
   unfolding waits
   ends t h w =
       let e = first-front l b g t (omega arith) in
       let f = written-full l b g t h in
-      omega (arith, front-le l b g t (omega arith), nltb→le (place t) (written z (b .rows) t) w)
+      omega (arith, front-le l b g t (omega arith), nltb→le (place t) (written (sizeIn l) (b .rows) t) w)
 
-  reach-same : (n m t : ℕ) → t + m ≡ p → p ≤ t + n → k ≤ t → reach z n (l .table) p (spot t) ≡ spot (readTurn z m (b .rows) t)
+  reach-same : (n m t : ℕ) → t + m ≡ p → p ≤ t + n → l .head .k ≤ t → reach (sizeIn l) n (l .table) p (spot t) ≡ spot (readTurn (sizeIn l) m (b .rows) t)
   unfolding reach readTurn
   reach-same zero zero t e h c = refl
   reach-same zero (suc m) t e h c = absurd (omega arith)
   reach-same (suc n) zero t e h c =
-      rw (moves-by z p (here t) (spot t), ge→false t p (omega arith), and-false (eqb (place t) (z .ne))) (choose-same (ltb (place t) ((here t) .written)) (spot t))
+      rw (moves-by (sizeIn l) p (here l t) (spot t), ge→false t p (omega arith), and-false (eqb (place t) (l .head .ne))) (choose-same (ltb (place t) ((here l t) .written)) (spot t))
   reach-same (suc n) (suc m) t e h c =
-      rw (moves-by z p (here t) (spot t), waits-same l b g t (near l b g t c (omega arith)))
+      rw (moves-by (sizeIn l) p (here l t) (spot t), waits-same l b g t (near l b g t c (omega arith)))
       (cases (waiting t)
       (λ w. rw (T→true (waiting t) w))
       (λ w. rw (
         not→false (waiting t) w,
-        T→true (eqb (place t) (z .ne)) (eq→eqb (place t) (z .ne) (ends t (omega arith) w)),
+        T→true (eqb (place t) (l .head .ne)) (eq→eqb (place t) (l .head .ne) (ends t (omega arith) w)),
         lt→true t p (omega arith),
         ← first-above l b g (suc t) (omega arith) (omega arith),
       )
@@ -84,71 +75,71 @@ module _ (l : Line) (b : Book) (g : Agrees (sizeOf (l .head)) l b) where
 
   -- ---- the owner moves on to turn r, past turns in which no row waits, and the reading place is then n
 
-  module _ (r : ℕ) (from : k ≤ r) (to : r ≤ p) (skips : (u : ℕ) → k ≤ u → u < r → T (not (waiting u))) where
+  module _ (r : ℕ) (from : l .head .k ≤ r) (to : r ≤ p) (skips : (u : ℕ) → l .head .k ≤ u → u < r → T (not (waiting u))) where
     abbrev moved : ℕ → Line
     moved n = withHead l (getAt (l .head) (record { turn = r; place = n }))
 
-    front-read : (n : ℕ) → front z (moved n) r ≡ n
-    front-read n = front-here z (moved n) r refl
+    front-read : (n : ℕ) → front (sizeIn l) (moved n) r ≡ n
+    front-read n = front-here (sizeIn l) (moved n) r refl
 
-    front-moved : (n u : ℕ) → u ≢ r → front z (moved n) u ≡ front z l u
+    front-moved : (n u : ℕ) → u ≢ r → front (sizeIn l) (moved n) u ≡ front (sizeIn l) l u
     front-moved n u h =
-        front-is z (moved n) u (front z l u)
-        (λ s. cases (ltb u k)
-        (λ i. sym (front-below z l u (ltb→lt u k i)))
-        (λ i. sym (ends u (omega arith) (skips u (nltb→le u k i) s)) ∙ first-front l b g u (omega arith)))
+        front-is (sizeIn l) (moved n) u (front (sizeIn l) l u)
+        (λ s. cases (ltb u (l .head .k))
+        (λ i. sym (front-below (sizeIn l) l u (ltb→lt u (l .head .k) i)))
+        (λ i. sym (ends u (omega arith) (skips u (nltb→le u (l .head .k) i) s)) ∙ first-front l b g u (omega arith)))
         (λ s. absurd (h s))
-        (λ s i. sym (front-above z l u (omega arith) i))
-        (λ s i. sym (front-past z l u (omega arith) i))
+        (λ s i. sym (front-above (sizeIn l) l u (omega arith) i))
+        (λ s i. sym (front-past (sizeIn l) l u (omega arith) i))
 
     -- what is left to say is the rows' marks
     moved-matches : (n : ℕ) (rs : List Row) → length rs ≡ length (b .rows) → ((m : ℕ) → (rowAt rs m) .label ≡ (rowAt (b .rows) m) .label)
-        → ((u q : ℕ) → q < z .ne → (rowAt rs (rowOf z u q)) .gone ≡ ltb q (front z (moved n) u))
-        → Matches z (moved n) (record { rows = rs; k = r; desks = b .desks })
+        → ((u q : ℕ) → q < l .head .ne → (rowAt rs (rowOf (sizeIn l) u q)) .gone ≡ ltb q (front (sizeIn l) (moved n) u))
+        → Matches (sizeIn l) (moved n) (record { rows = rs; k = r; desks = b .desks })
     moved-matches n rs many label marks = record {
       turn = refl;
       desks = g .desks;
       rows = many ∙ g .rows;
-      labels = λ s low high i. g .labels s low high i ∙ sym (label (rowOf z (s .turn) (s .place)));
+      labels = λ s low high i. g .labels s low high i ∙ sym (label (rowOf (sizeIn l) (s .turn) (s .place)));
       marks = marks;
       looks = λ d s e h. g .looks d s e (omega arith);
     }
 
     -- a get that finds nothing
-    empty-marks : (u q : ℕ) → q < z .ne → (rowAt (b .rows) (rowOf z u q)) .gone ≡ ltb q (front z (moved (place r)) u)
+    empty-marks : (u q : ℕ) → q < l .head .ne → (rowAt (b .rows) (rowOf (sizeIn l) u q)) .gone ≡ ltb q (front (sizeIn l) (moved (place r)) u)
     empty-marks u q h =
         g .marks u q h ∙ ap (ltb q) (sym (cases (eqb u r)
-        (λ s. let e = eqb→eq u r s in front-here z (moved (place r)) u e ∙ rw e (first-front l b g r to))
+        (λ s. let e = eqb→eq u r s in front-here (sizeIn l) (moved (place r)) u e ∙ rw e (first-front l b g r to))
         (λ s. front-moved (place r) u (neq-test u r s))))
 
     -- a get that takes the first waiting row
-    taken-marks : T (waiting r) → (u q : ℕ) → q < z .ne
-        → (rowAt (markGone (b .rows) (rowOf z r (place r))) (rowOf z u q)) .gone ≡ ltb q (front z (moved (suc (place r))) u)
+    taken-marks : T (waiting r) → (u q : ℕ) → q < l .head .ne
+        → (rowAt (markGone (b .rows) (rowOf (sizeIn l) r (place r))) (rowOf (sizeIn l) u q)) .gone ≡ ltb q (front (sizeIn l) (moved (suc (place r))) u)
     taken-marks w =
-        mark-front z (b .rows) (front z l) (front z (moved (suc (place r)))) r (place r) (first-fits z (b .rows) r w) (first-in z (b .rows) r w)
+        mark-front (sizeIn l) (b .rows) (front (sizeIn l) l) (front (sizeIn l) (moved (suc (place r)))) r (place r) (first-fits (sizeIn l) (b .rows) r w) (first-in (sizeIn l) (b .rows) r w)
         (sym (first-front l b g r to)) (front-read (suc (place r))) (front-moved (suc (place r))) (g .marks)
 
-    read-follows : Follows z (readAt z l (spot r)) (B.getAt z b r)
+    read-follows : Follows (sizeIn l) (readAt (sizeIn l) l (spot r)) (B.getAt (sizeIn l) b r)
     unfolding readAt B.getAt
     read-follows =
         let w = near l b g r from to in
         let e = waits-same l b g r w in
-        by-test₂ (Follows z) (ltb (place r) ((here r) .written)) (waiting r) e
-        (λ t. let n = rowOf z r (place r) in let s = subst T e t in record {
-          same = ap Got (g .labels (spot r) (w .low) (w .high) (ltb→lt (place r) ((here r) .written) t));
+        by-test₂ (Follows (sizeIn l)) (ltb (place r) ((here l r) .written)) (waiting r) e
+        (λ t. let n = rowOf (sizeIn l) r (place r) in let s = subst T e t in record {
+          same = ap Got (g .labels (spot r) (w .low) (w .high) (ltb→lt (place r) ((here l r) .written) t));
           matches = moved-matches (suc (place r)) (markGone (b .rows) n) (mark-length (b .rows) n)
-              (λ m. mark-label (b .rows) n m (first-in z (b .rows) r s)) (taken-marks s);
+              (λ m. mark-label (b .rows) n m (first-in (sizeIn l) (b .rows) r s)) (taken-marks s);
         })
         (λ _. record { same = refl; matches = moved-matches (place r) (b .rows) refl (λ m. refl) empty-marks })
 
-  pub get-follows : Follows z (getStep z l) (B.getStep z b)
+  pub get-follows : Follows (sizeIn l) (getStep (sizeIn l) l) (B.getStep (sizeIn l) b)
   unfolding getStep B.getStep B.getAt
   get-follows =
-      let n = p - k in
+      let n = p - l .head .k in
       let low = below l b g in
-      let start : l .head .reading ≡ place k = sym (first-front l b g k low ∙ front-here z l k refl) in
-      let line : reach z (z .nb - 1) (l .table) p (record { turn = k; place = l .head .reading }) ≡ spot (readTurn z n (b .rows) k) =
-      ap (λ (q : ℕ). reach z (z .nb - 1) (l .table) p (record { turn = k; place = q })) start
-      ∙ reach-same (z .nb - 1) n k (omega arith) (omega (arith, g .lawful .sound .one .near)) (le-refl k) in
+      let start : l .head .reading ≡ place (l .head .k) = sym (first-front l b g (l .head .k) low ∙ front-here (sizeIn l) l (l .head .k) refl) in
+      let line : reach (sizeIn l) (l .head .nb - 1) (l .table) p (record { turn = l .head .k; place = l .head .reading }) ≡ spot (readTurn (sizeIn l) n (b .rows) (l .head .k)) =
+      ap (λ (q : ℕ). reach (sizeIn l) (l .head .nb - 1) (l .table) p (record { turn = l .head .k; place = q })) start
+      ∙ reach-same (l .head .nb - 1) n (l .head .k) (omega arith) (omega (arith, g .lawful .sound .one .near)) (le-refl (l .head .k)) in
       rw (line, put-turn l b g, g .turn)
-      (read-follows (readTurn z n (b .rows) k) (read-from z n (b .rows) k) (omega (arith, read-to z n (b .rows) k)) (λ u. read-skips z n (b .rows) k u))
+      (read-follows (readTurn (sizeIn l) n (b .rows) (l .head .k)) (read-from (sizeIn l) n (b .rows) (l .head .k)) (omega (arith, read-to (sizeIn l) n (b .rows) (l .head .k))) (λ u. read-skips (sizeIn l) n (b .rows) (l .head .k) u))

@@ -22,7 +22,7 @@ use Rattle.book.specs.Book as B
 use Rattle.book.proofs.Choice.{by-test, by-test₂, cases, neq-test, by-order}
 use Rattle.book.proofs.Rows.{row-append}
 use Rattle.book.proofs.Turns.{block-apart}
-use Rattle.line.specs.Line.{Line, Block, Spot, sizeOf, oneWritten, recordOf, entryOf, labelAt, newTurn, room, roomOf, labelled}
+use Rattle.line.specs.Line.{Line, Block, Spot, sizeOf, oneWritten, recordOf, entryOf, labelAt, newTurn, room, roomOf, labelled, sizeIn, here}
 use Rattle.line.specs.Line.{isBusy, mayPut, withLabel, putStep, putMany, orderStep}
 use Rattle.line.specs.Agrees.{front, Lawful, Agrees}
 use Rattle.line.proofs.Current.{Window, record-same, record-apart, entry-inj, entry-lt, each-turn}
@@ -35,48 +35,39 @@ use Rattle.line.proofs.Front.{sizes, pos, below, near, put-window, curr
 use Rattle.line.proofs.Desks.{rule, busy-same}
 
 module _ (l : Line) (b : Book) (g : Agrees (sizeOf (l .head)) l b) where
-  abbrev z : Size
-  z = sizeOf (l .head)
-
   abbrev p : ℕ
   p = l .head .p
 
-  abbrev k : ℕ
-  k = l .head .k
-
-  abbrev here : ℕ → Block
-  here t = recordOf z (l .table) t
-
   -- ---- the refusals are the same
 
-  put-verdict : (a : ℕ) → mayPut z l a ≡ B.mayPut z b a
+  put-verdict : (a : ℕ) → mayPut (sizeIn l) l a ≡ B.mayPut (sizeIn l) b a
   unfolding mayPut B.mayPut
   put-verdict a =
       rw (put-turn l b g, written-same l b g p (put-window l b g))
-      (placeable-same z p ((here p) .written) k (isBusy (here (p + 1 - z .nb))) (B.isBusy z b (p + 1 - z .nb)) a
-      (λ h. busy-same l b g (p + 1 - z .nb) (record { low = omega (arith, pos l b g); high = omega arith }))
-      ∙ ap (λ (n : ℕ). placeable z p ((here p) .written) n (B.isBusy z b (p + 1 - z .nb)) a) (sym (g .turn)))
+      (placeable-same (sizeIn l) p ((here l p) .written) (l .head .k) (isBusy (here l (p + 1 - l .head .nb))) (B.isBusy (sizeIn l) b (p + 1 - l .head .nb)) a
+      (λ h. busy-same l b g (p + 1 - l .head .nb) (record { low = omega (arith, pos l b g); high = omega arith }))
+      ∙ ap (λ (n : ℕ). placeable (sizeIn l) p ((here l p) .written) n (B.isBusy (sizeIn l) b (p + 1 - l .head .nb)) a) (sym (g .turn)))
 
   -- ---- label a goes to place q of turn t, whose record is then c
 
   -- the entries have the label of a spot's row
   abbrev Labels : List ℕ → List Row → Spot → Type 0
-  Labels es rs s = labelAt z es s ≡ (rowAt rs (rowOf z (s .turn) (s .place))) .label
+  Labels es rs s = labelAt (sizeIn l) es s ≡ (rowAt rs (rowOf (sizeIn l) (s .turn) (s .place))) .label
 
   -- that spot is the end of the list, in turn P or P + 1, with turn K still current then; a place below q is written
   record Next (t q : ℕ) (c : Block) : Type 0 where
-    last : rowOf z t q ≡ length (b .rows)
-    fits : q < z .ne
+    last : rowOf (sizeIn l) t q ≡ length (b .rows)
+    fits : q < l .head .ne
     from : p ≤ t
     to : t ≤ p + 1
-    wide : t < k + z .nb
-    below : (n : ℕ) → n < q → (t ≤ p) × (n < (here t) .written)
+    wide : t < l .head .k + l .head .nb
+    below : (n : ℕ) → n < q → (t ≤ p) × (n < (here l t) .written)
     one : c .written ≡ suc q
-    claims : k < t → c .claimed ≡ front z l t
+    claims : l .head .k < t → c .claimed ≡ front (sizeIn l) l t
 
   module _ (a t q : ℕ) (c : Block) (e : Next t q c) where
     abbrev m : Line
-    m = labelled z l a (room z t q c)
+    m = labelled (sizeIn l) l a (room (sizeIn l) t q c)
 
     abbrev new : Row
     new = record { label = a; gone = false }
@@ -84,22 +75,22 @@ module _ (l : Line) (b : Book) (g : Agrees (sizeOf (l .head)) l b) where
     abbrev rs : List Row
     rs = b .rows ++ (new ∷ [])
 
-    new-window : Window z t t
+    new-window : Window (sizeIn l) t t
     new-window = record { low = le-refl t; high = omega (arith, pos l b g) }
 
-    new-record : recordOf z (m .table) t ≡ c
-    new-record = record-same z (l .table) t c (pos l b g) (blocks-of z l (g .lawful))
+    new-record : recordOf (sizeIn l) (m .table) t ≡ c
+    new-record = record-same (sizeIn l) (l .table) t c (pos l b g) (blocks-of (sizeIn l) l (g .lawful))
 
     -- claimed is the front as it was, and so no front moves
-    claimed-front : (u : ℕ) → k < u → u ≤ t → (recordOf z (m .table) u) .claimed ≡ front z l u
+    claimed-front : (u : ℕ) → l .head .k < u → u ≤ t → (recordOf (sizeIn l) (m .table) u) .claimed ≡ front (sizeIn l) l u
     claimed-front u h i =
-        each-turn z (l .table) t t c (pos l b g) (blocks-of z l (g .lawful)) new-window (λ v x. k < v → x .claimed ≡ front z l v) (e .claims)
-        (λ v w n j. sym (front-above z l v j (omega (arith, w .low, e .to)))) u (record { low = i; high = omega (arith, e .wide) }) h
+        each-turn (sizeIn l) (l .table) t t c (pos l b g) (blocks-of (sizeIn l) l (g .lawful)) new-window (λ v x. l .head .k < v → x .claimed ≡ front (sizeIn l) l v) (e .claims)
+        (λ v w n j. sym (front-above (sizeIn l) l v j (omega (arith, w .low, e .to)))) u (record { low = i; high = omega (arith, e .wide) }) h
 
-    front-put : (u : ℕ) → front z m u ≡ front z l u
+    front-put : (u : ℕ) → front (sizeIn l) m u ≡ front (sizeIn l) l u
     front-put u =
-        front-is z m u (front z l u)
-        (λ s. sym (front-below z l u s)) (λ s. sym (front-here z l u s)) (claimed-front u) (λ s i. sym (front-past z l u s (omega (arith, e .from))))
+        front-is (sizeIn l) m u (front (sizeIn l) l u)
+        (λ s. sym (front-below (sizeIn l) l u s)) (λ s. sym (front-here (sizeIn l) l u s)) (claimed-front u) (λ s i. sym (front-past (sizeIn l) l u s (omega (arith, e .from))))
 
     -- the new label stands at the end of the list
     new-label : (s : Spot) → s .turn ≡ t → s .place ≡ q → Labels (m .entries) rs s
@@ -108,34 +99,34 @@ module _ (l : Line) (b : Book) (g : Agrees (sizeOf (l .head)) l b) where
         rw (
           x,
           y,
-          getD-set-same (l .entries) (entryOf z t q) a 0 (omega (arith, entry-lt z t q (pos l b g) (e .fits), entries-of z l (g .lawful))),
+          getD-set-same (l .entries) (entryOf (sizeIn l) t q) a 0 (omega (arith, entry-lt (sizeIn l) t q (pos l b g) (e .fits), entries-of (sizeIn l) l (g .lawful))),
           e .last,
           getD-append-seam (b .rows) new [] _,
         )
 
     -- and each other where it stood, before the end
-    module _ (s : Spot) (w : Window z t (s .turn)) (h : s .place < z .ne) (n : s .turn ≡ t → s .place < q) where
-      other-entry : entryOf z (s .turn) (s .place) ≢ entryOf z t q
+    module _ (s : Spot) (w : Window (sizeIn l) t (s .turn)) (h : s .place < l .head .ne) (n : s .turn ≡ t → s .place < q) where
+      other-entry : entryOf (sizeIn l) (s .turn) (s .place) ≢ entryOf (sizeIn l) t q
       other-entry x =
-          let j = entry-inj z (s .turn) (s .place) t q h (e .fits) x in
+          let j = entry-inj (sizeIn l) (s .turn) (s .place) t q h (e .fits) x in
           cases (eqb (s .turn) t)
           (λ y. omega (arith, n (eqb→eq (s .turn) t y), j .1))
-          (λ y. block-apart z t (s .turn) t (w .low) (w .high) (le-refl t) (new-window .high) (neq-test (s .turn) t y) (j .0))
+          (λ y. block-apart (sizeIn l) t (s .turn) t (w .low) (w .high) (le-refl t) (new-window .high) (neq-test (s .turn) t y) (j .0))
 
-      before-end : rowOf z (s .turn) (s .place) < length (b .rows)
+      before-end : rowOf (sizeIn l) (s .turn) (s .place) < length (b .rows)
       before-end =
           by-order (s .turn) t
-          (λ y. omega (arith, e .last, mul-le-mul-right (z .ne) y))
-          (λ y. omega (arith, e .last, n y, ap (λ (u : ℕ). u * z .ne) y))
+          (λ y. omega (arith, e .last, mul-le-mul-right (l .head .ne) y))
+          (λ y. omega (arith, e .last, n y, ap (λ (u : ℕ). u * l .head .ne) y))
           (λ y. absurd (omega (arith, w .low)))
 
       old-label : Labels (l .entries) (b .rows) s → Labels (m .entries) rs s
       unfolding labelAt
       old-label x =
-          getD-set-other (l .entries) (entryOf z t q) (entryOf z (s .turn) (s .place)) a 0 other-entry ∙ x
-          ∙ ap (λ (r : Row). r .label) (sym (List·getD-append (b .rows) (new ∷ []) _ (rowOf z (s .turn) (s .place)) before-end))
+          getD-set-other (l .entries) (entryOf (sizeIn l) t q) (entryOf (sizeIn l) (s .turn) (s .place)) a 0 other-entry ∙ x
+          ∙ ap (λ (r : Row). r .label) (sym (List·getD-append (b .rows) (new ∷ []) _ (rowOf (sizeIn l) (s .turn) (s .place)) before-end))
 
-    put-labels : (s : Spot) → Window z t (s .turn) → s .place < (recordOf z (m .table) (s .turn)) .written → Labels (m .entries) rs s
+    put-labels : (s : Spot) → Window (sizeIn l) t (s .turn) → s .place < (recordOf (sizeIn l) (m .table) (s .turn)) .written → Labels (m .entries) rs s
     put-labels s w i =
         cases (eqb (s .turn) t)
         (λ x. let x′ = eqb→eq (s .turn) t x in
@@ -146,39 +137,39 @@ module _ (l : Line) (b : Book) (g : Agrees (sizeOf (l .head)) l b) where
         let o = e .below (s .place) lt in
         old-label s w (omega (arith, e .fits)) (λ _. lt) (g .labels s (omega arith) (omega (arith, w .high, e .from)) (rw x′ (o .1)))))
         (λ x. let n = neq-test (s .turn) t x in
-        let old : Window z p (s .turn) = record { low = omega (arith, w .low, e .to); high = omega (arith, w .high, e .from) } in
-        let i′ : s .place < (here (s .turn)) .written = rw (record-apart z (l .table) t c t (s .turn) new-window w n) at i in
+        let old : Window (sizeIn l) p (s .turn) = record { low = omega (arith, w .low, e .to); high = omega (arith, w .high, e .from) } in
+        let i′ : s .place < (here l (s .turn)) .written = rw (record-apart (sizeIn l) (l .table) t c t (s .turn) new-window w n) at i in
         old-label s w (omega (arith, current l b g (s .turn) old .fits)) (λ y. absurd (n y)) (g .labels s (old .low) (old .high) i′))
 
-    put-matches : Matches z m (append b a)
+    put-matches : Matches (sizeIn l) m (append b a)
     put-matches = record {
       turn = g .turn;
       desks = g .desks;
       rows = rw (length-append (b .rows) (new ∷ []), new-record, e .one) (omega (arith, e .last));
       labels = λ s low high i. put-labels s (record { low = low; high = high }) i;
-      marks = λ u n h. row-append (b .rows) a (rowOf z u n) ∙ g .marks u n h ∙ ap (ltb n) (sym (front-put u));
+      marks = λ u n h. row-append (b .rows) a (rowOf (sizeIn l) u n) ∙ g .marks u n h ∙ ap (ltb n) (sym (front-put u));
       looks = λ d s x h. let low = rule l b g d (looked s) x .0 in
-          rw (claimed-front (s .turn) h (omega (arith, e .from)), front-above z l (s .turn) h low) (g .looks d s x h);
+          rw (claimed-front (s .turn) h (omega (arith, e .from)), front-above (sizeIn l) l (s .turn) h low) (g .looks d s x h);
     }
 
   -- ---- the next place of turn P, or place 0 of turn P + 1
 
-  next-place : (here p) .written < z .ne → Next p ((here p) .written) (oneWritten (here p))
+  next-place : (here l p) .written < l .head .ne → Next p ((here l p) .written) (oneWritten (here l p))
   next-place h = record {
     last = sym (g .rows);
     fits = h;
     from = le-refl p;
     to = omega arith;
-    wide = near l b g k (le-refl k) (below l b g) .high;
+    wide = near l b g (l .head .k) (le-refl (l .head .k)) (below l b g) .high;
     below = λ n i. (le-refl p, i);
     one = refl;
-    claims = λ i. sym (front-above z l p i (le-refl p));
+    claims = λ i. sym (front-above (sizeIn l) l p i (le-refl p));
   }
 
   abbrev started : Block
-  started = newTurn (roundOf z (p + 1))
+  started = newTurn (roundOf (sizeIn l) (p + 1))
 
-  next-turn : z .ne ≤ (here p) .written → p + 1 - k ≤ z .nb - 1 → Next (p + 1) 0 started
+  next-turn : l .head .ne ≤ (here l p) .written → p + 1 - l .head .k ≤ l .head .nb - 1 → Next (p + 1) 0 started
   next-turn h wide = record {
     last = omega (arith, g .rows, current l b g p (put-window l b g) .fits);
     fits = omega (arith, sizes l b g .ne);
@@ -187,16 +178,16 @@ module _ (l : Line) (b : Book) (g : Agrees (sizeOf (l .head)) l b) where
     wide = omega (arith, pos l b g);
     below = λ n i. absurd (omega arith);
     one = refl;
-    claims = λ i. sym (front-past z l (p + 1) i (omega arith));
+    claims = λ i. sym (front-past (sizeIn l) l (p + 1) i (omega arith));
   }
 
   -- K is within the window of the line after it, which is sound
-  stored-matches : (a : ℕ) → Lawful z (withLabel z l a) → Matches z (withLabel z l a) (append b a)
+  stored-matches : (a : ℕ) → Lawful (sizeIn l) (withLabel (sizeIn l) l a) → Matches (sizeIn l) (withLabel (sizeIn l) l a) (append b a)
   unfolding withLabel roomOf
   stored-matches a =
-      by-test (λ r. Lawful z (labelled z l a r) → Matches z (labelled z l a r) (append b a)) (ltb ((here p) .written) (z .ne))
-      (λ s w. put-matches a p ((here p) .written) (oneWritten (here p)) (next-place (ltb→lt ((here p) .written) (z .ne) s)))
-      (λ s w. put-matches a (p + 1) 0 started (next-turn (nltb→le ((here p) .written) (z .ne) s) (w .sound .one .near)))
+      by-test (λ r. Lawful (sizeIn l) (labelled (sizeIn l) l a r) → Matches (sizeIn l) (labelled (sizeIn l) l a r) (append b a)) (ltb ((here l p) .written) (l .head .ne))
+      (λ s w. put-matches a p ((here l p) .written) (oneWritten (here l p)) (next-place (ltb→lt ((here l p) .written) (l .head .ne) s)))
+      (λ s w. put-matches a (p + 1) 0 started (next-turn (nltb→le ((here l p) .written) (l .head .ne) s) (w .sound .one .near)))
 
 -- ---- put and order, at every size
 

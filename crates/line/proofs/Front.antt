@@ -19,7 +19,7 @@ use Rattle.book.specs.Book as B
 use Rattle.book.proofs.Choice.{cases, same-test, by-order, neq-test, lt→true, ge→false, le→true, gt→false, neq→eqb, eqb-same}
 use Rattle.book.proofs.Rows.{goneBefore-prefix, written-is, row-place, mark-same, mark-other}
 use Rattle.book.proofs.Turns.{row-inj}
-use Rattle.line.specs.Line.{Line, Block, Spot, deskOf, deskAt, sizeOf, recordOf, labelAt}
+use Rattle.line.specs.Line.{Line, Spot, deskOf, deskAt, sizeOf, recordOf, labelAt, sizeIn, here}
 use Rattle.line.specs.Line as L
 use Rattle.line.specs.Agrees.{asRow, front, Lawful, Agrees}
 use Rattle.line.proofs.Current.{Window}
@@ -46,15 +46,7 @@ module _ (z : Size) where
     matches-of g = record { turn = g .turn; desks = g .desks; rows = g .rows; labels = g .labels; marks = g .marks; looks = g .looks }
 
     pub agrees-of : Lawful z l → Matches l b → Agrees z l b
-    agrees-of w m = record {
-      lawful = w;
-      turn = m .turn;
-      desks = m .desks;
-      rows = m .rows;
-      labels = m .labels;
-      marks = m .marks;
-      looks = m .looks;
-    }
+    agrees-of w m = record { lawful = w; turn = m .turn; desks = m .desks; rows = m .rows; labels = m .labels; marks = m .marks; looks = m .looks }
 
     -- an answer that changes nothing
     pub stays : Agrees z l b → (a : Answer) → Follows (L.says l a) (B.says b a)
@@ -127,76 +119,67 @@ module _ (z : Size) where
 -- ---- a line and a book that agree, turn by turn
 
 module _ (l : Line) (b : Book) (g : Agrees (sizeOf (l .head)) l b) where
-  abbrev z : Size
-  z = sizeOf (l .head)
-
   abbrev p : ℕ
   p = l .head .p
 
-  abbrev k : ℕ
-  k = l .head .k
+  pub sizes : Valid (sizeIn l)
+  sizes = valid-of (sizeIn l) l (g .lawful)
 
-  abbrev here : ℕ → Block
-  here t = recordOf z (l .table) t
-
-  pub sizes : Valid z
-  sizes = valid-of z l (g .lawful)
-
-  pub pos : 0 < z .nb
+  pub pos : 0 < l .head .nb
   pos = omega (arith, sizes .nb)
 
   -- the turns from K to P are current
-  pub below : k ≤ p
+  pub below : l .head .k ≤ p
   below = g .lawful .sound .one .below
 
-  pub near : (t : ℕ) → k ≤ t → t ≤ p → Window z p t
+  pub near : (t : ℕ) → l .head .k ≤ t → t ≤ p → Window (sizeIn l) p t
   near t h i = record { low = i; high = omega (arith, below, g .lawful .sound .one .near, pos) }
 
-  pub put-window : Window z p p
+  pub put-window : Window (sizeIn l) p p
   put-window = near p below (le-refl p)
 
-  pub current : (t : ℕ) → Window z p t → Cell l t
+  pub current : (t : ℕ) → Window (sizeIn l) p t → Cell l t
   current t w = cell l pos (g .lawful .sound) t w
 
   -- P, and written of each turn
-  pub put-turn : putTurn z (b .rows) ≡ p
+  pub put-turn : putTurn (sizeIn l) (b .rows) ≡ p
   unfolding putTurn
   put-turn =
       let c = current p put-window in
-      let e : length (b .rows) - 1 ≡ p * z .ne + ((here p) .written - 1) =
+      let e : length (b .rows) - 1 ≡ p * l .head .ne + ((here l p) .written - 1) =
       cases (eqb p 0)
-      (λ s. omega (arith, g .rows, ap (λ (n : ℕ). n * z .ne) (eqb→eq p 0 s)))
+      (λ s. omega (arith, g .rows, ap (λ (n : ℕ). n * l .head .ne) (eqb→eq p 0 s)))
       (λ s. omega (arith, g .rows, c .some refl (neq-test p 0 s))) in
       rw e (digits-div p (omega (arith, c .fits, sizes .ne)))
 
-  pub written-full : (t : ℕ) → t < p → written z (b .rows) t ≡ z .ne
-  written-full t h = rw (written-is z (b .rows) t) (omega (arith, g .rows, mul-le-mul-right (z .ne) h))
+  pub written-full : (t : ℕ) → t < p → written (sizeIn l) (b .rows) t ≡ l .head .ne
+  written-full t h = rw (written-is (sizeIn l) (b .rows) t) (omega (arith, g .rows, mul-le-mul-right (l .head .ne) h))
 
-  pub written-same : (t : ℕ) → Window z p t → written z (b .rows) t ≡ (here t) .written
+  pub written-same : (t : ℕ) → Window (sizeIn l) p t → written (sizeIn l) (b .rows) t ≡ (here l t) .written
   written-same t w =
       by-order t p
       (λ s. written-full t s ∙ sym (current t w .full s))
-      (λ s. rw (s, written-is z (b .rows) p) (omega (arith, g .rows, current p put-window .fits)))
+      (λ s. rw (s, written-is (sizeIn l) (b .rows) p) (omega (arith, g .rows, current p put-window .fits)))
       (λ s. absurd (omega (arith, w .low)))
 
   -- the first row that waits stands at the front
-  pub front-le : (t : ℕ) → t ≤ p → front z l t ≤ written z (b .rows) t
+  pub front-le : (t : ℕ) → t ≤ p → front (sizeIn l) l t ≤ written (sizeIn l) (b .rows) t
   front-le t h =
-      by-order t k
-      (λ s. rw (front-below z l t s, written-full t (omega (arith, below))) (le-refl (z .ne)))
-      (λ s. rw (front-here z l t s, written-same t (near t (omega arith) h), s) (g .lawful .sound .two .to))
-      (λ s. let w = near t (omega arith) h in rw (front-above z l t s h, written-same t w) (current t w .claims))
+      by-order t (l .head .k)
+      (λ s. rw (front-below (sizeIn l) l t s, written-full t (omega (arith, below))) (le-refl (l .head .ne)))
+      (λ s. rw (front-here (sizeIn l) l t s, written-same t (near t (omega arith) h), s) (g .lawful .sound .two .to))
+      (λ s. let w = near t (omega arith) h in rw (front-above (sizeIn l) l t s h, written-same t w) (current t w .claims))
 
-  pub first-front : (t : ℕ) → t ≤ p → first z (b .rows) t ≡ front z l t
+  pub first-front : (t : ℕ) → t ≤ p → first (sizeIn l) (b .rows) t ≡ front (sizeIn l) l t
   unfolding first written
   first-front t h =
-      goneBefore-prefix (rowsOf z (b .rows) t) (front z l t)
-      (λ q i. let j : q < z .ne = omega (arith, written-is z (b .rows) t) in rw (row-place z (b .rows) t q j) (g .marks t q j)) (front-le t h)
+      goneBefore-prefix (rowsOf (sizeIn l) (b .rows) t) (front (sizeIn l) l t)
+      (λ q i. let j : q < l .head .ne = omega (arith, written-is (sizeIn l) (b .rows) t) in rw (row-place (sizeIn l) (b .rows) t q j) (g .marks t q j)) (front-le t h)
 
-  pub first-above : (t : ℕ) → k < t → t ≤ p → first z (b .rows) t ≡ (here t) .claimed
-  first-above t h i = first-front t i ∙ front-above z l t h i
+  pub first-above : (t : ℕ) → l .head .k < t → t ≤ p → first (sizeIn l) (b .rows) t ≡ (here l t) .claimed
+  first-above t h i = first-front t i ∙ front-above (sizeIn l) l t h i
 
   -- and one waits exactly where the front is below written
-  pub waits-same : (t : ℕ) → Window z p t → ltb (first z (b .rows) t) ((here t) .written) ≡ waits z (b .rows) t
+  pub waits-same : (t : ℕ) → Window (sizeIn l) p t → ltb (first (sizeIn l) (b .rows) t) ((here l t) .written) ≡ waits (sizeIn l) (b .rows) t
   unfolding waits
   waits-same t w = rw (written-same t w)

@@ -20,7 +20,7 @@ use Rattle.book.specs.declared.DeskStep.{DeskStep}
 use Rattle.book.specs.declared.DeskStep.the-variants.{Look as look, Claim as claim, Fetch as fetch, Finish as finish}
 use Rattle.book.specs.declared.Deed.{Deed}
 use Rattle.book.specs.declared.Deed.the-variants.{Put as put, Get as get, Order as order, Desk as desk, Unlisted as unlisted}
-use Rattle.book.specs.Steps.{Step, decode, Desk, Hold, holding, claimedAt, withFetched, isFetched, holdOf}
+use Rattle.book.specs.Steps.{Step, decode, Desk, Hold, holdOf}
 use Rattle.book.specs.declared.Verdict.{Verdict}
 use Rattle.book.specs.declared.Verdict.the-variants.{Takes as takes, Refuses as refuses}
 use Rattle.book.specs.Verdicts.{judge, grid, stage, column, atStage, noBlock, admitted, lookable, startable, placeable}

@@ -11,13 +11,13 @@ use lib.Dec.{eqb, eqb→eq}
 use lib.ListN.{length, getD, set, length-set}
 use lib.Seq.{getD-set-same, getD-set-other}
 use Rattle.book.specs.Sizes.{Size, blockOf}
-use Rattle.book.specs.Steps.{Desk, idle, looked, Hold, holding, claimedAt, withFetched, isFetched, holdOf}
+use Rattle.book.specs.Steps.{Desk, idle, looked, holding, isFetched}
 use Rattle.book.proofs.Choice.{cases, neq-test, neq→eqb, eqb-same, by-test, T→true, not→false}
 use Rattle.book.proofs.Total.{total-set}
-use Rattle.line.specs.Line.{Line, LentDesk, Block, Head, Spot, numbersOf, deskOf, deskAt, withDesk, withHead, sizeOf}
+use Rattle.line.specs.Line.{Line, LentDesk, Block, Head, Spot, numbersOf, deskOf, deskAt, withDesk, withHead, sizeIn, here}
 use Rattle.line.specs.Rules.{heldIn, Holds, Current, DeskRule, Rule3}
 use Rattle.line.proofs.Current.{current→window, record-later, each-turn}
-use Rattle.line.proofs.Cells.{held, Stands, here}
+use Rattle.line.proofs.Cells.{held, Stands}
 use Rattle.line.proofs.ByTurns.{In, ByTurns, some-block}
 
 -- ---- a desk as its numbers
@@ -120,15 +120,7 @@ desk-kept l l′ e m saw (holding x) held o = let k = held (x .at) refl (o .0) i
 
 -- the same record under desks that hold as many spots of its turn
 pub stands-by : {z : Size} {p : ℕ} {ds ds′ : List LentDesk} {t : ℕ} {c : Block} → held ds′ t ≡ held ds t → Stands z p ds t c → Stands z p ds′ t c
-stands-by e s = record {
-  round = s .round;
-  fits = s .fits;
-  full = s .full;
-  some = s .some;
-  claims = s .claims;
-  zeroth = s .zeroth;
-  holders = rw e (s .holders);
-}
+stands-by e s = record { round = s .round; fits = s .fits; full = s .full; some = s .some; claims = s .claims; zeroth = s .zeroth; holders = rw e (s .holders) }
 
 abbrev pub withDesks : Head → List LentDesk → Head
 withDesks h ds = record { nb = h .nb; ne = h .ne; t = h .t; reading = h .reading; p = h .p; k = h .k; desks = ds }
@@ -141,14 +133,11 @@ pub record Grows (l : Line) (t : ℕ) (c : Block) : Type 0 where
   pub reading : l .head .k ≡ t → c .claimed ≤ l .head .reading
 
 module _ (l : Line) (g : ByTurns l) (t : ℕ) (c : Block) (r : Grows l t c) (es : List ℕ) where
-  abbrev z : Size
-  z = sizeOf (l .head)
-
   abbrev l′ : Line
-  l′ = record { head = l .head; table = set (l .table) (blockOf z t) c; entries = es }
+  l′ = record { head = l .head; table = set (l .table) (blockOf (sizeIn l) t) c; entries = es }
 
   each-here : (Q : ℕ → Block → Type 0) → Q t c → ((u : ℕ) → In l u → u ≢ t → Q u (here l u)) → (u : ℕ) → In l u → Q u (here l′ u)
-  each-here = each-turn z (l .table) (l .head .p) t c (some-block l g) (g .blocks) (r .turn)
+  each-here = each-turn (sizeIn l) (l .table) (l .head .p) t c (some-block l g) (g .blocks) (r .turn)
 
   abbrev Kept : ℕ → Block → Type 0
   Kept u b = ((here l u) .claimed ≤ b .claimed) × ((here l u) .written ≤ b .written)
@@ -165,10 +154,10 @@ module _ (l : Line) (g : ByTurns l) (t : ℕ) (c : Block) (r : Grows l t c) (es 
   }
     where
       at : (u : ℕ) → Current l u → Kept u (here l′ u)
-      at u e = grown u (current→window z (l .head .p) u (some-block l g) e)
+      at u e = grown u (current→window (sizeIn l) (l .head .p) u (some-block l g) e)
 
   -- and the desks are now ds, which hold as many spots of every other turn as before
-  pub told-record : (ds : List LentDesk) → length ds ≡ 16 → length es ≡ length (l .entries) → Stands z (l .head .p) ds t c
+  pub told-record : (ds : List LentDesk) → length ds ≡ 16 → length es ≡ length (l .entries) → Stands (sizeIn l) (l .head .p) ds t c
       → ((u : ℕ) → u ≢ t → held ds u ≡ held (l .head .desks) u)
       → Rule3 (withHead l′ (withDesks (l .head) ds)) → ByTurns (withHead l′ (withDesks (l .head) ds))
   told-record ds many same new others three =
@@ -177,12 +166,12 @@ module _ (l : Line) (g : ByTurns l) (t : ℕ) (c : Block) (r : Grows l t c) (es 
       each-here (λ (u : ℕ) (b : Block). l .head .k ≡ u → b .claimed ≤ l .head .reading) (r .reading) (λ u _ _ e. rw (← e) (g .two .from)) in
       record {
         valid = g .valid;
-        blocks = length-set (l .table) (blockOf z t) c ∙ g .blocks;
+        blocks = length-set (l .table) (blockOf (sizeIn l) t) c ∙ g .blocks;
         room = same ∙ g .room;
         many = many;
         one = record { below = g .one .below; near = g .one .near; rounds = g .one .rounds };
         two = record { from = own (l .head .k) k refl; to = omega (arith, g .two .to, grown (l .head .k) k) };
         three = three;
-        turns = each-here (Stands z (l .head .p) ds) new (λ u v n. stands-by (others u n) (g .turns u v));
-        blanks = λ u b i. record-later z (l .table) t c u (omega (arith, r .turn .low)) i ∙ g .blanks u b i;
+        turns = each-here (Stands (sizeIn l) (l .head .p) ds) new (λ u v n. stands-by (others u n) (g .turns u v));
+        blanks = λ u b i. record-later (sizeIn l) (l .table) t c u (omega (arith, r .turn .low)) i ∙ g .blanks u b i;
       }

@@ -4,6 +4,7 @@ pub mod Tests
 pub mod DeskMoves
 pub mod Onward
 pub mod Check
+pub mod Unread
 pub mod Guards
 pub mod Empty
 pub mod Refusals

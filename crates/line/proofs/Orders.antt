@@ -12,13 +12,12 @@ use Rattle.words.specs.declared.Answer.{Answer}
 use Rattle.words.specs.declared.Answer.the-variants.{Whole, Refused}
 use Rattle.words.specs.declared.Refusal.{Refusal}
 use Rattle.words.specs.declared.Refusal.the-variants.{Range}
-use Rattle.book.specs.Choice.{_<ᵇ_}
 use Rattle.book.specs.Sizes.{Size, isOrder}
 use Rattle.book.specs.declared.Deed.the-variants.{Order as order}
 use Rattle.book.specs.declared.Verdict.{Verdict}
 use Rattle.book.specs.declared.Verdict.the-variants.{Takes as takes, Refuses as refuses}
 use Rattle.book.proofs.Choice.{by-test, T→true, by-order}
-use Rattle.line.specs.Line.{Line, Outcome, says, sizeOf, recordOf, mayPut, withLabel, putMany, orderStep, does}
+use Rattle.line.specs.Line.{Line, Outcome, says, sizeOf, mayPut, withLabel, putMany, orderStep, does, sizeIn}
 use Rattle.line.specs.Rules.{Sound}
 use Rattle.line.specs.Calls.{step, orders}
 use Rattle.line.specs.Refusals.{When, afterPuts, Places}
@@ -91,9 +90,6 @@ module _ (z : Size) where
 -- ---- an order from a to e
 
 module _ (l : Line) (a e : ℕ) where
-  abbrev z : Size
-  z = sizeOf (l .head)
-
   abbrev count : ℕ
   count = suc e - a
 
@@ -101,38 +97,38 @@ module _ (l : Line) (a e : ℕ) where
   abbrev Said : Line → Answer → Type 0
   Said m =
       OfAnswer
-      (λ n. (m ≡ afterPuts z n l a) × T (isOrder a e) × (n ≡ count) × Places z n l a)
-      (λ w n. (m ≡ afterPuts z n l a) × (((w ≡ Range) × When l Range (order a e) × (n ≡ 0)) ⊎ (T (isOrder a e) × Stops z count l a w n)))
+      (λ n. (m ≡ afterPuts (sizeIn l) n l a) × T (isOrder a e) × (n ≡ count) × Places (sizeIn l) n l a)
+      (λ w n. (m ≡ afterPuts (sizeIn l) n l a) × (((w ≡ Range) × When l Range (order a e) × (n ≡ 0)) ⊎ (T (isOrder a e) × Stops (sizeIn l) count l a w n)))
 
   abbrev Says : Outcome → Type 0
   Says o = Said (o .line) (o .answer)
 
-  told : Says (orderStep z l a e)
+  told : Says (orderStep (sizeIn l) l a e)
   unfolding orderStep afterPuts
   told =
       by-test Says (isOrder a e)
-      (λ t. ⊎-elim (λ p. rw (all-placed z count l a p) (refl, t, refl, p))
-      (λ x. let (w, n, s) = x in rw (one-refused z count l a w n s) (refl, inr (t, s))) (first z count l a))
+      (λ t. ⊎-elim (λ p. rw (all-placed (sizeIn l) count l a p) (refl, t, refl, p))
+      (λ x. let (w, n, s) = x in rw (one-refused (sizeIn l) count l a w n s) (refl, inr (t, s))) (first (sizeIn l) count l a))
       (λ t. (refl, inl (refl, (a, e, refl, out-of-range a e .0 t), refl)))
 
-  said : (x : Answer) → (orderStep z l a e) .answer ≡ x → Said ((orderStep z l a e) .line) x
-  said x q = subst (Said ((orderStep z l a e) .line)) q told
+  said : (x : Answer) → (orderStep (sizeIn l) l a e) .answer ≡ x → Said ((orderStep (sizeIn l) l a e) .line) x
+  said x q = subst (Said ((orderStep (sizeIn l) l a e) .line)) q told
 
-  no-range : (n : ℕ) → mayPut z (afterPuts z n l a) (a + n) ≢ refuses Range
-  no-range n q = put-range (afterPuts z n l a) (a + n) (rw (size-kept z n l a) q)
+  no-range : (n : ℕ) → mayPut (sizeIn l) (afterPuts (sizeIn l) n l a) (a + n) ≢ refuses Range
+  no-range n q = put-range (afterPuts (sizeIn l) n l a) (a + n) (rw (size-kept (sizeIn l) n l a) q)
 
   module _ (pos : 0 < l .head .nb) (g : Sound l) where
-    ordered : Ordered l a e (orderStep z l a e)
+    ordered : Ordered l a e (orderStep (sizeIn l) l a e)
     unfolding orderStep does
     ordered = record {
       range = λ n. (
         λ q. ⊎-elim (λ h. (h .1, h .2)) (λ h. absurd (no-range n (h .1 .2))) (said (Refused Range n) q .1),
         λ h. rw (h .1) (when-refused l pos g Range (order a e) (h .0)),
       );
-      whole = λ n. (λ q. let (_, t, c, p) = said (Whole n) q in (t, c, p), λ h. let (t, c, p) = h in rw (T→true (isOrder a e) t, ← c, all-placed z n l a p));
+      whole = λ n. (λ q. let (_, t, c, p) = said (Whole n) q in (t, c, p), λ h. let (t, c, p) = h in rw (T→true (isOrder a e) t, ← c, all-placed (sizeIn l) n l a p));
       stopped = λ w n x. (
         λ q. ⊎-elim (λ h. absurd (x (h .0))) (λ h. let (t, s) = h in (t, s .0, s .1, s .2)) (said (Refused w n) q .1),
-        λ h. let (t, b, p, r) = h in rw (T→true (isOrder a e) t, one-refused z count l a w n (b, p, r)),
+        λ h. let (t, b, p, r) = h in rw (T→true (isOrder a e) t, one-refused (sizeIn l) count l a w n (b, p, r)),
       );
       placed = λ n q. said (Whole n) q .0;
       kept = λ w n q. said (Refused w n) q .0;

@@ -7,7 +7,6 @@ use mathlib.Core.Logic.{_≢_, _↔_, _⊎_, inl, inr, ⊎-elim}
 use mathlib.Core.Bool.{Bool, true, false, not, _&&_}
 use Prim.Native.Nat.{ℕ, _+_, _-_, _≤_, _<_}
 use native.Mathlib.Nat.{mod-le, le-trans}
-use native.Mathlib.Omega.{arith}
 use lib.Dec.{T, T-not, not-T, ltb→lt, nltb→le, leb→le, nleb→lt, eqb→eq}
 use Rattle.words.specs.declared.Answer.{Answer}
 use Rattle.words.specs.declared.Answer.the-variants.{Put, Got, Took, Whole, Seen, Claimed, Done, Refused}
@@ -20,18 +19,18 @@ use Rattle.book.specs.declared.DeskStep.the-variants.{Look as look, Claim as cl
 use Rattle.book.specs.declared.Deed.{Deed}
 use Rattle.book.specs.declared.Deed.the-variants.{Put as put, Get as get, Order as order, Desk as desk, Unlisted as unlisted}
 use Rattle.book.specs.Steps.{Step, decode}
-use Rattle.book.specs.Steps.{Desk, idle, looked, Hold, holding, claimedAt, withFetched, isFetched, holdOf}
+use Rattle.book.specs.Steps.{Desk, idle, looked, Hold, holding, claimedAt, isFetched, holdOf}
 use Rattle.book.specs.declared.Verdict.{Verdict}
 use Rattle.book.specs.declared.Verdict.the-variants.{Refuses as refuses}
 use Rattle.book.specs.Verdicts.{judge, stage, column, atStage, noBlock, admitted, lookable, startable, placeable}
 use Rattle.book.proofs.Choice.{by-test, by-verdict, cases, T→true, not→false, and-first, and-second, and-false}
 use Rattle.book.proofs.Choice.{eq→eqb, eqb-same, lt→true, ge→false, le→true, gt→false}
 use Rattle.book.proofs.Turns.{current-low}
-use Rattle.line.specs.Line.{Line, Outcome, Block, Spot, nowhere, refuse, deskAt, getAt, withHead, sizeOf, recordOf, isBusy, mayPut, putStep, orderStep, readAt, getStep}
+use Rattle.line.specs.Line.{Line, Outcome, Block, Spot, nowhere, refuse, deskAt, getAt, withHead, sizeOf, recordOf, isBusy, mayPut, putStep, orderStep, readAt, getStep, sizeIn, here}
 use Rattle.line.specs.Line.{deskDoes, deskStep, does}
 use Rattle.line.specs.Line as L
 use Rattle.line.specs.Rules.{Current, Sound}
-use Rattle.line.specs.Check.{fit, check}
+use Rattle.line.specs.Check.{check}
 use Rattle.line.specs.Calls.{step, passes}
 use Rattle.line.specs.Refusals.{OnLine, Takes, Starts, When}
 use Rattle.line.specs.Demands.{RefusedWhen, RefusedLeaves, HeadAlone, LostLeaves, EmptyLeaves}
@@ -72,12 +71,6 @@ abbrev NoOrder : Deed → Type 0
 NoOrder e = (a b : ℕ) → e ≢ order a b
 
 module _ (l : Line) where
-  abbrev z : Size
-  z = sizeOf (l .head)
-
-  abbrev here : ℕ → Block
-  here t = recordOf z (l .table) t
-
   abbrev P : ℕ
   P = l .head .p
 
@@ -102,33 +95,33 @@ module _ (l : Line) where
   abbrev next : ℕ
   next = P + 1
 
-  put-told : (a : ℕ) → Says (put a) (putStep z l a)
+  put-told : (a : ℕ) → Says (put a) (putStep (sizeIn l) l a)
   unfolding putStep mayPut placeable startable isLabel
   put-told a =
       let J = Judged (put a) _ in
-      let c = here P in
+      let c = here l P in
       let q = next - NB in
       by-test J (not (isLabel a)) (λ n. ((a, refl, nleb→lt a highestLabel n), refl)) (λ n.
       by-test J (c .written <ᵇ l .head .ne) (λ _. tt) (λ f.
       let s : Starts l a = record { label = leb→le a highestLabel (not-not (isLabel a) n); full = nltb→le (c .written) (l .head .ne) f } in
-      by-test J (65536 ≤ᵇ roundOf z next) (λ r. ((a, refl, s, leb→le 65536 (roundOf z next) r), refl)) (λ r.
-      let low = nleb→lt 65536 (roundOf z next) r in
+      by-test J (65536 ≤ᵇ roundOf (sizeIn l) next) (λ r. ((a, refl, s, leb→le 65536 (roundOf (sizeIn l) next) r), refl)) (λ r.
+      let low = nleb→lt 65536 (roundOf (sizeIn l) next) r in
       by-test J (next <ᵇ NB) (λ _. tt) (λ b.
       let back = nltb→le next NB b in
       by-test J (K ≤ᵇ q) (λ k. ((a, refl, s, low, back, leb→le K q k), refl)) (λ k.
       let over = nleb→lt K q k in
-      by-test J (isBusy (here q)) (λ h. ((a, refl, s, low, back, over, ltb→lt ((here q) .finished) ((here q) .claimed) h), refl)) (λ _. tt))))))
+      by-test J (isBusy (here l q)) (λ h. ((a, refl, s, low, back, over, ltb→lt ((here l q) .finished) ((here l q) .claimed) h), refl)) (λ _. tt))))))
 
-  starts : (a : ℕ) → Starts l a → mayPut z l a ≡ startable z K (isBusy (here (next - NB))) next
+  starts : (a : ℕ) → Starts l a → mayPut (sizeIn l) l a ≡ startable (sizeIn l) K (isBusy (here l (next - NB))) next
   unfolding mayPut placeable isLabel
-  starts a s = rw (le→true a highestLabel (s .label), ge→false ((here P) .written) (l .head .ne) (s .full))
+  starts a s = rw (le→true a highestLabel (s .label), ge→false ((here l P) .written) (l .head .ne) (s .full))
 
-  put-refused : (a : ℕ) (w : Refusal) → mayPut z l a ≡ refuses w → (putStep z l a) .answer ≡ Refused w 0
+  put-refused : (a : ℕ) (w : Refusal) → mayPut (sizeIn l) l a ≡ refuses w → (putStep (sizeIn l) l a) .answer ≡ Refused w 0
   unfolding putStep
   put-refused a w e = rw e
 
   -- the sentence of RANGE is of an order, so no put is refused so
-  pub put-range : (a : ℕ) → mayPut z l a ≢ refuses Range
+  pub put-range : (a : ℕ) → mayPut (sizeIn l) l a ≢ refuses Range
   put-range a e =
       let (b, c, q, _) = (subst (OfRefusal (Sentence (put a))) (put-refused a Range e) (put-told a)) .0 in
       let r : true ≡ false = cc in
@@ -137,17 +130,17 @@ module _ (l : Line) where
   -- ---- look at block i, with its current turn t
 
   abbrev turnAt : ℕ → ℕ
-  turnAt i = currentTurn z P i
+  turnAt i = currentTurn (sizeIn l) P i
 
   module _ (i : ℕ) where
     abbrev t : ℕ
     t = turnAt i
 
     abbrev c : Block
-    c = here t
+    c = here l t
 
     abbrev used : Bool
-    used = isUsed z P i
+    used = isUsed (sizeIn l) P i
 
     abbrev none : Bool
     none = c .claimed ≡ᵇ c .written
@@ -156,20 +149,20 @@ module _ (l : Line) where
     abbrev Bare : Type 0
     Bare = (P < i) ⊎ ((i ≤ P) × (K < t) × (c .claimed ≡ c .written))
 
-    bare : T (not (isOwned z P K i)) → T (not (used && not none)) → Bare
+    bare : T (not (isOwned (sizeIn l) P K i)) → T (not (used && not none)) → Bare
     unfolding isOwned
     bare o n =
         cases used
         (λ u. let e = T→true used u in inr (leb→le i P u, nleb→lt t K (rw e at o), eqb→eq (c .claimed) (c .written) (not-not none (rw e at n))))
         (λ u. inl (nleb→lt i P u))
 
-    bare-refused : Bare → lookable z P K i (not none) ≡ refuses Nothing
+    bare-refused : Bare → lookable (sizeIn l) P K i (not none) ≡ refuses Nothing
     unfolding lookable isOwned
     bare-refused =
         ⊎-elim (λ h. rw (gt→false i P h))
         (λ h. rw (le→true i P (h .0), gt→false t K (h .1), T→true none (eq→eqb (c .claimed) (c .written) (h .2))))
 
-    look-told : (d : ℕ) → Takes l d (look i) → Says (desk d (look i)) (lookStep z l d i)
+    look-told : (d : ℕ) → Takes l d (look i) → Says (desk d (look i)) (lookStep (sizeIn l) l d i)
     unfolding lookStep lookable isOwned
     look-told d k =
         let J = Judged (desk d (look i)) _ in
@@ -180,43 +173,43 @@ module _ (l : Line) where
   -- ---- claim of spot s
 
   -- a current turn's block is used, and so it is owned exactly if the turn is at most K
-  owned : (u : ℕ) → Current l u → isOwned z P K (blockOf z u) ≡ (u ≤ᵇ K)
+  owned : (u : ℕ) → Current l u → isOwned (sizeIn l) P K (blockOf (sizeIn l) u) ≡ (u ≤ᵇ K)
   unfolding isOwned
   owned u e =
-      let low : u ≤ P = rw e at (current-low z P (blockOf z u)) in
-      rw (le→true (blockOf z u) P (le-trans (mod-le u NB) low), e)
+      let low : u ≤ P = rw e at (current-low (sizeIn l) P (blockOf (sizeIn l) u)) in
+      rw (le→true (blockOf (sizeIn l) u) P (le-trans (mod-le u NB) low), e)
 
   module _ (s : Spot) where
     abbrev u : ℕ
     u = s .turn
 
     abbrev Wins : Type 0
-    Wins = Current l u × (K < u) × ((here u) .claimed ≡ s .place)
+    Wins = Current l u × (K < u) × ((here l u) .claimed ≡ s .place)
 
-    wins : T (winnable z l s) → Wins
+    wins : T (winnable (sizeIn l) l s) → Wins
     unfolding winnable L.wins
     wins w =
-        let e : Current l u = eqb→eq (turnAt (blockOf z u)) u (search and-first) in
-        let f : T (not (isOwned z P K (blockOf z u))) = search (and-first, and-second) in
-        (e, nleb→lt u K (rw (owned u e) at f), eqb→eq ((here u) .claimed) (s .place) (search and-second))
+        let e : Current l u = eqb→eq (turnAt (blockOf (sizeIn l) u)) u (search and-first) in
+        let f : T (not (isOwned (sizeIn l) P K (blockOf (sizeIn l) u))) = search (and-first, and-second) in
+        (e, nleb→lt u K (rw (owned u e) at f), eqb→eq ((here l u) .claimed) (s .place) (search and-second))
 
-    won : Wins → T (winnable z l s)
+    won : Wins → T (winnable (sizeIn l) l s)
     unfolding winnable L.wins
     won h = let (e, k, q) = h in rw (owned u e, gt→false u K k, e, eqb-same u, q, eqb-same (s .place)) tt
 
-    claim-told : (d : ℕ) → d < l .head .t → deskAt (l .head) d ≡ looked s → Says (desk d claim) (claimStep z l d s)
+    claim-told : (d : ℕ) → d < l .head .t → deskAt (l .head) d ≡ looked s → Says (desk d claim) (claimStep (sizeIn l) l d s)
     unfolding claimStep
-    claim-told d h e = by-test (Says (desk d claim)) (winnable z l s) (λ _. tt) (λ n. ((d, s, refl, h, e, λ w. T-not (winnable z l s) n (won w)), refl))
+    claim-told d h e = by-test (Says (desk d claim)) (winnable (sizeIn l) l s) (λ _. tt) (λ n. ((d, s, refl, h, e, λ w. T-not (winnable (sizeIn l) l s) n (won w)), refl))
 
   -- ---- the desks' steps
 
-  on-line : (s : DeskStep) → T (not (noBlock z s)) ↔ OnLine l s
+  on-line : (s : DeskStep) → T (not (noBlock (sizeIn l) s)) ↔ OnLine l s
   on-line (look i) = (nleb→lt NB i, λ h. rw (gt→false NB i h) tt)
   on-line claim = (λ n. n, λ h. h)
   on-line fetch = (λ n. n, λ h. h)
   on-line finish = (λ n. n, λ h. h)
 
-  off-line : (d : ℕ) (s : DeskStep) → d < l .head .t → T (noBlock z s) → When l Noblock (desk d s)
+  off-line : (d : ℕ) (s : DeskStep) → d < l .head .t → T (noBlock (sizeIn l) s) → When l Noblock (desk d s)
   off-line d (look i) h b = (d, i, refl, h, leb→le NB i b)
   off-line d claim h b = absurd b
   off-line d fetch h b = absurd b
@@ -228,17 +221,17 @@ module _ (l : Line) where
 
     -- the grid, a stage at a time
     abbrev At : ℕ → Hold Spot → DeskStep → Type 0
-    At n x s = Judged (desk d s) (deskDoes z l d x s) (atStage n (column s))
+    At n x s = Judged (desk d s) (deskDoes (sizeIn l) l d x s) (atStage n (column s))
 
     looks : (i : ℕ) (x : Hold Spot) → Takes l d (look i) → At 0 x (look i)
-    looks i x k = rw (does-look z l d x i) (look-told i d k)
+    looks i x k = rw (does-look (sizeIn l) l d x i) (look-told i d k)
 
     module _ (x : Hold Spot) (e : deskAt (l .head) d ≡ holding x) where
       claimed-told : T (not (isFetched x)) → (s : DeskStep) → OnLine l s → At 2 x s
       unfolding fetchStep
       claimed-told u (look i) o = stage-told (look i) o (rw (e, not→false (isFetched x) u))
       claimed-told u claim o = stage-told claim o (rw (e, not→false (isFetched x) u))
-      claimed-told u fetch o = rw (does-fetch z l d x) tt
+      claimed-told u fetch o = rw (does-fetch (sizeIn l) l d x) tt
       claimed-told u finish o = stage-told finish o (rw (e, not→false (isFetched x) u))
 
       fetched-told : T (isFetched x) → (s : DeskStep) → OnLine l s → At 3 x s
@@ -246,7 +239,7 @@ module _ (l : Line) where
       fetched-told f (look i) o = stage-told (look i) o (rw (e, T→true (isFetched x) f))
       fetched-told f claim o = stage-told claim o (rw (e, T→true (isFetched x) f))
       fetched-told f fetch o = stage-told fetch o (rw (e, T→true (isFetched x) f))
-      fetched-told f finish o = rw (does-finish z l d x) tt
+      fetched-told f finish o = rw (does-finish (sizeIn l) l d x) tt
 
     grid-told : (x : Desk Spot) (s : DeskStep) → deskAt (l .head) d ≡ x → OnLine l s → At (stage x) (holdOf nowhere x) s
     grid-told idle (look i) e o = looks i _ (record { there = h; on = o; grid = rw e })
@@ -254,27 +247,27 @@ module _ (l : Line) where
     grid-told idle fetch e o = stage-told fetch o (rw e)
     grid-told idle finish e o = stage-told finish o (rw e)
     grid-told (looked s) (look i) e o = looks i _ (record { there = h; on = o; grid = rw e })
-    grid-told (looked s) claim e o = rw (does-claim z l d (claimedAt s)) (claim-told s d h e)
+    grid-told (looked s) claim e o = rw (does-claim (sizeIn l) l d (claimedAt s)) (claim-told s d h e)
     grid-told (looked s) fetch e o = stage-told fetch o (rw e)
     grid-told (looked s) finish e o = stage-told finish o (rw e)
     grid-told (holding x) s e o = by-test (λ n. At n x s) (isFetched x) (λ f. fetched-told x e f s o) (λ u. claimed-told x e u s o)
 
-  desk-told : (d : ℕ) (s : DeskStep) → Says (desk d s) (deskStep z l d s (deskAt (l .head) d))
+  desk-told : (d : ℕ) (s : DeskStep) → Says (desk d s) (deskStep (sizeIn l) l d s (deskAt (l .head) d))
   unfolding deskStep admitted
   desk-told d s =
       let J = Judged (desk d s) _ in
       by-test J (l .head .t ≤ᵇ d) (λ n. ((d, s, refl, leb→le (l .head .t) d n), refl)) (λ n.
       let h = nleb→lt (l .head .t) d n in
-      by-test J (noBlock z s) (λ b. (off-line d s h b, refl)) (λ b. grid-told d h (deskAt (l .head) d) s refl (on-line s .0 b)))
+      by-test J (noBlock (sizeIn l) s) (λ b. (off-line d s h b, refl)) (λ b. grid-told d h (deskAt (l .head) d) s refl (on-line s .0 b)))
 
-  takes-step : (d : ℕ) (s : DeskStep) → Takes l d s → does z l (desk d s) ≡ deskDoes z l d (holdOf nowhere (deskAt (l .head) d)) s
+  takes-step : (d : ℕ) (s : DeskStep) → Takes l d s → does (sizeIn l) l (desk d s) ≡ deskDoes (sizeIn l) l d (holdOf nowhere (deskAt (l .head) d)) s
   unfolding does deskStep admitted
-  takes-step d s k = rw (gt→false (l .head .t) d (k .there), not→false (noBlock z s) (on-line s .1 (k .on)), k .grid)
+  takes-step d s k = rw (gt→false (l .head .t) d (k .there), not→false (noBlock (sizeIn l) s) (on-line s .1 (k .on)), k .grid)
 
   -- ---- every deed, on a sound line
 
   module _ (pos : 0 < NB) (g : Sound l) where
-    told : (e : Deed) → NoOrder e → Says e (does z l e)
+    told : (e : Deed) → NoOrder e → Says e (does (sizeIn l) l e)
     unfolding does getStep readAt
     told (put a) n = put-told a
     told get n = by-test (Says get) (isRead l (reached l)) (λ _. tt) (λ f. let (r, c) = empty-when l pos g .0 f in ((refl, r, c), refl))
@@ -283,29 +276,29 @@ module _ (l : Line) where
     told unlisted n = (refl, refl)
 
     -- and a sentence settles the tests of its deed
-    pub when-refused : (w : Refusal) (e : Deed) → When l w e → (does z l e) .answer ≡ Refused w 0
+    pub when-refused : (w : Refusal) (e : Deed) → When l w e → (does (sizeIn l) l e) .answer ≡ Refused w 0
     unfolding does putStep mayPut placeable startable isLabel orderStep getStep readAt deskStep admitted lookStep lookable isOwned claimStep
     when-refused Unfit e h = absurd h
     when-refused Damaged e h = absurd h
     when-refused Badstep e h = rw h
     when-refused Nodesk e h = let (d, s, q, n) = h in rw (q, le→true (l .head .t) d n)
     when-refused Noblock e h = let (d, i, q, t, n) = h in rw (q, gt→false (l .head .t) d t, le→true NB i n)
-    when-refused Stage e h = let (d, s, q, t, o, n) = h in rw (q, gt→false (l .head .t) d t, not→false (noBlock z s) (on-line s .1 o), n)
-    when-refused Owned e h = let (d, i, q, k, u, o) = h in rw (q, takes-step d (look i) k, does-look z l d, le→true i P u, le→true (turnAt i) K o)
-    when-refused Nothing e h = let (d, i, q, k, n) = h in rw (q, takes-step d (look i) k, does-look z l d, bare-refused i n)
+    when-refused Stage e h = let (d, s, q, t, o, n) = h in rw (q, gt→false (l .head .t) d t, not→false (noBlock (sizeIn l) s) (on-line s .1 o), n)
+    when-refused Owned e h = let (d, i, q, k, u, o) = h in rw (q, takes-step d (look i) k, does-look (sizeIn l) l d, le→true i P u, le→true (turnAt i) K o)
+    when-refused Nothing e h = let (d, i, q, k, n) = h in rw (q, takes-step d (look i) k, does-look (sizeIn l) l d, bare-refused i n)
     when-refused Lost e h =
         let (d, s, q, t, x, n) = h in
-        rw (q, gt→false (l .head .t) d t, x, does-claim z l d (claimedAt s), not→false (winnable z l s) (not-T (winnable z l s) (λ w. n (wins s w))))
+        rw (q, gt→false (l .head .t) d t, x, does-claim (sizeIn l) l d (claimedAt s), not→false (winnable (sizeIn l) l s) (not-T (winnable (sizeIn l) l s) (λ w. n (wins s w))))
     when-refused Notlabel e h = let (a, q, n) = h in rw (q, gt→false a highestLabel n)
     when-refused Range e h = let (a, b, q, n) = h in rw (q, not→false (isOrder a b) (out-of-range a b .1 n))
-    when-refused Worn e h = let (a, q, s, r) = h in rw (q, starts a s, le→true 65536 (roundOf z next) r)
+    when-refused Worn e h = let (a, q, s, r) = h in rw (q, starts a s, le→true 65536 (roundOf (sizeIn l) next) r)
     when-refused Full e h =
         let (a, q, s, r, b, k) = h in
-        rw (q, starts a s, gt→false 65536 (roundOf z next) r, ge→false next NB b, le→true K (next - NB) k)
+        rw (q, starts a s, gt→false 65536 (roundOf (sizeIn l) next) r, ge→false next NB b, le→true K (next - NB) k)
     when-refused Busy e h =
         let (a, q, s, r, b, k, n) = h in
-        let c = here (next - NB) in
-        rw (q, starts a s, gt→false 65536 (roundOf z next) r, ge→false next NB b, gt→false K (next - NB) k, lt→true (c .finished) (c .claimed) n)
+        let c = here l (next - NB) in
+        rw (q, starts a s, gt→false 65536 (roundOf (sizeIn l) next) r, ge→false next NB b, gt→false K (next - NB) k, lt→true (c .finished) (c .claimed) n)
     when-refused Empty e h = let (q, r, c) = h in rw (q, not→false (isRead l (reached l)) (empty-when l pos g .1 (r, c)))
 
 pub refused-when : RefusedWhen

@@ -1,21 +1,25 @@
 -- Every run: sound in, sound out; the line's answers are the book's; and so counting, "never twice" and the bound hold of
 -- the line's own answers. One step is proofs/Sound.antt and proofs/Follows.antt; here they are added up over a list of steps.
-use mathlib.Core.Path.{_≡_, refl, ap₂}
-use mathlib.Core.List.{List, [], _∷_}
+use mathlib.Core.Path.{_≡_, refl, ap₂, _∙_}
+use mathlib.Core.List.{List, [], _∷_, _++_}
 use Rattle.words.specs.declared.Answer.{Answer}
-use Rattle.book.specs.Sizes.{Size, fits}
+use Rattle.book.specs.Sizes.{Size, sized, fits}
 use Rattle.book.specs.declared.Deed.the-variants.{Order as order}
 use Rattle.book.specs.Steps.{Step, decode}
 use Rattle.book.specs.Book as B
-use Rattle.book.specs.Demands.{Counting, NeverTwice, Handed, Bounded}
-use Rattle.book.proofs.Counting.{counting, never-twice}
+use Rattle.book.specs.Messages.{put}
+use Rattle.book.specs.WornCases.{putAndGet, WornRun}
+use Rattle.book.specs.Demands.{Counting, Placed, RowsKept, RowsOfBook, LabelsKept, NeverTwice, Handed, Bounded}
+use Rattle.book.proofs.Counting.{counting, placed-rows, rows-kept, never-twice}
 use Rattle.book.proofs.Handed.{handed-over}
+use Rattle.book.proofs.Kept.{rows-of-book, labels-kept}
 use Rattle.book.proofs.Bound.{bounded}
+use Rattle.book.proofs.Cases.{worn-run}
 use Rattle.line.specs.Line.{Line, does, opened}
 use Rattle.line.specs.Check.{sound}
 use Rattle.line.specs.Calls.{step, answers, after}
 use Rattle.line.specs.Agrees.{Lawful}
-use Rattle.line.specs.Demands.{CheckSound, SoundOut, OrderSoundOut, AlwaysSound, RunAgrees, OpenedAgrees, Demand2, LineCounting, LineHanded, Demand3}
+use Rattle.line.specs.Demands.{CheckSound, SoundOut, OrderSoundOut, AlwaysSound, RunAgrees, OpenedAgrees, Demand2, LineCounting, LineHanded, LineRowsKept, LineWornRun, Demand3}
 use Rattle.line.proofs.Check.{Fit, check-sound}
 use Rattle.line.proofs.Guards.{step-does, orders-does}
 use Rattle.line.proofs.Sound.{does-lawful, opened-lawful}
@@ -79,6 +83,18 @@ line-counting z ss f = rw (demand2 z ss f) (counting z ss)
 pub line-handed : LineHanded
 unfolding LineHanded Demand2 Handed NeverTwice
 line-handed z ss f = rw (demand2 z ss f) (handed-over z ss, never-twice z ss)
+
+pub line-rows-kept : LineRowsKept
+unfolding LineRowsKept Demand2 RowsKept RowsOfBook LabelsKept Placed
+line-rows-kept z ss f =
+    let r = rw (placed-rows z ss) at (rows-of-book z ss) in
+    rw (demand2 z ss f) (rows-kept z ss, r .0, r .1, labels-kept z ss)
+
+-- ---- WORN
+
+pub line-worn-run : LineWornRun
+unfolding LineWornRun Demand2 WornRun fits
+line-worn-run = demand2 (sized 2 1 1) (putAndGet 131072 ++ (put 1 ∷ [])) tt ∙ worn-run .1
 
 -- ---- demand 3
 

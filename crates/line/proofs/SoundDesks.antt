@@ -19,32 +19,29 @@ use Rattle.book.specs.declared.Verdict.{Verdict}
 use Rattle.book.specs.Verdicts.{judge, stage, column, atStage, noBlock, admitted, lookable}
 use Rattle.book.proofs.Choice.{by-test, and-first, and-second, T→true, neq-test, neq→eqb}
 use Rattle.book.proofs.Turns.{current-low, current-high}
-use Rattle.line.specs.Line.{Line, Block, Spot, Outcome, nowhere, numbersOf, deskAt, sizeOf, withDesk, withHead}
+use Rattle.line.specs.Line.{Line, Block, Spot, Outcome, nowhere, numbersOf, deskAt, withDesk, withHead, sizeIn, here}
 use Rattle.line.specs.Line.{oneClaimed, oneFinished, refuse, deskDoes, deskStep}
 use Rattle.line.specs.Line as L
 use Rattle.line.specs.Rules.{heldIn, Holds, DeskRule}
 use Rattle.line.specs.Agrees.{Lawful}
 use Rattle.line.proofs.DeskMoves.{withRecord, lookStep, winnable, claimStep, fetchStep, finishStep, does-look, does-claim, does-fetch, does-finish}
 use Rattle.line.proofs.Current.{current→window, window→current, record-same}
-use Rattle.line.proofs.Cells.{Stands, here}
+use Rattle.line.proofs.Cells.{Stands}
 use Rattle.line.proofs.ByTurns.{In, ByTurns, told, some-block, lawful}
 use Rattle.line.proofs.Kept.{held-one, held-rule, holders-set, Apart, three-desk, stands-by, Grows, three-record, told-record}
 
 module _ (l : Line) (g : ByTurns l) where
-  abbrev z : Size
-  z = sizeOf (l .head)
-
   abbrev p : ℕ
   p = l .head .p
 
   -- the line after a step by verdict: that of o where it takes
   abbrev Judged : Outcome → Verdict → Type 0
-  Judged o v = Lawful z ((judge v o (refuse l)) .line)
+  Judged o v = Lawful (sizeIn l) ((judge v o (refuse l)) .line)
 
-  unchanged : Lawful z l
+  unchanged : Lawful (sizeIn l) l
   unchanged = lawful l g
 
-  module _ (d : ℕ) (below : d < z .t) where
+  module _ (d : ℕ) (below : d < l .head .t) where
     abbrev was : Desk Spot
     was = deskAt (l .head) d
 
@@ -54,7 +51,7 @@ module _ (l : Line) (g : ByTurns l) where
     -- ---- desk d becomes x, and holds what it held
 
     becomes : (x : Desk Spot) → DeskRule l x → ((u : ℕ) → heldIn u x ≡ heldIn u was) → ((s : Spot) → Holds x s → Holds was s)
-        → Lawful z (withHead l (withDesk (l .head) d x))
+        → Lawful (sizeIn l) (withHead l (withDesk (l .head) d x))
     becomes x rule same held = lawful (withHead l (withDesk (l .head) d x)) (record {
       valid = g .valid;
       blocks = g .blocks;
@@ -68,43 +65,43 @@ module _ (l : Line) (g : ByTurns l) where
     })
 
     sees : (t : ℕ) → In l t → (here l t) .claimed ≢ (here l t) .written → ((u : ℕ) → heldIn u was ≡ 0)
-        → Lawful z (withHead l (withDesk (l .head) d (looked (record { turn = t; place = (here l t) .claimed }))))
+        → Lawful (sizeIn l) (withHead l (withDesk (l .head) d (looked (record { turn = t; place = (here l t) .claimed }))))
     sees t v n none =
         let s = g .turns t v in
         becomes (looked (record { turn = t; place = (here l t) .claimed }))
         (v .low, omega (arith, s .claims, s .fits), λ _. omega (arith, s .claims)) (λ u. sym (none u)) (λ _ h. absurd h)
 
-    look-lawful : (i : ℕ) → ((u : ℕ) → heldIn u was ≡ 0) → Lawful z ((lookStep z l d i) .line)
+    look-lawful : (i : ℕ) → ((u : ℕ) → heldIn u was ≡ 0) → Lawful (sizeIn l) ((lookStep (sizeIn l) l d i) .line)
     unfolding lookStep lookable
     look-lawful i none =
-        let t = currentTurn z p i in
+        let t = currentTurn (sizeIn l) p i in
         let c = here l t in
-        let used = isUsed z p i in
+        let used = isUsed (sizeIn l) p i in
         let waits = not (c .claimed ≡ᵇ c .written) in
-        by-test (Judged _) (isOwned z p (l .head .k) i) (λ _. unchanged) (λ _.
+        by-test (Judged _) (isOwned (sizeIn l) p (l .head .k) i) (λ _. unchanged) (λ _.
         by-test (Judged _) (used && waits)
-        (λ m. sees t (record { low = current-low z p i; high = current-high z p i (some-block l g) (leb→le i p (and-first used waits m)) })
+        (λ m. sees t (record { low = current-low (sizeIn l) p i; high = current-high (sizeIn l) p i (some-block l g) (leb→le i p (and-first used waits m)) })
         (neq-test (c .claimed) (c .written) (and-second used waits m)) none)
         (λ _. unchanged))
 
-    fetch-lawful : (x : Hold Spot) → was ≡ holding x → Lawful z ((fetchStep z l d x) .line)
+    fetch-lawful : (x : Hold Spot) → was ≡ holding x → Lawful (sizeIn l) ((fetchStep (sizeIn l) l d x) .line)
     unfolding fetchStep
     fetch-lawful x e = becomes (holding (withFetched x)) (rw e at (g .three .desks d)) (λ u. rw e refl) (λ _ h. rw e h)
 
     -- ---- desk d becomes x, and the record of turn t becomes c
 
-    both : (x : Desk Spot) (t : ℕ) (c : Block) → Grows l t c → Stands z p (set (l .head .desks) d (numbersOf x)) t c
-        → ((u : ℕ) → u ≢ t → heldIn u x ≡ heldIn u was) → DeskRule (withRecord z l (l .head) t c) x → ((e : ℕ) → e ≢ d → Apart x (deskAt (l .head) e))
-        → Lawful z (withRecord z l (withDesk (l .head) d x) t c)
+    both : (x : Desk Spot) (t : ℕ) (c : Block) → Grows l t c → Stands (sizeIn l) p (set (l .head .desks) d (numbersOf x)) t c
+        → ((u : ℕ) → u ≢ t → heldIn u x ≡ heldIn u was) → DeskRule (withRecord (sizeIn l) l (l .head) t c) x → ((e : ℕ) → e ≢ d → Apart x (deskAt (l .head) e))
+        → Lawful (sizeIn l) (withRecord (sizeIn l) l (withDesk (l .head) d x) t c)
     both x t c r new others rule apart =
-        lawful (withRecord z l (withDesk (l .head) d x) t c)
+        lawful (withRecord (sizeIn l) l (withDesk (l .head) d x) t c)
         (told-record l g t c r (l .entries) (set (l .head .desks) d (numbersOf x)) (length-set (l .head .desks) d (numbersOf x) ∙ g .many) refl new
         (λ u n. omega (arith, holders-set (l .head) d x there u, others u n))
-        (three-desk (withRecord z l (l .head) t c) d x there (three-record l g t c r (l .entries)) apart below rule))
+        (three-desk (withRecord (sizeIn l) l (l .head) t c) d x there (three-record l g t c r (l .entries)) apart below rule))
 
     -- ---- claim
 
-    module _ (s : Spot) (e : was ≡ looked s) (w : T (winnable z l s)) where
+    module _ (s : Spot) (e : was ≡ looked s) (w : T (winnable (sizeIn l) l s)) where
       abbrev t : ℕ
       t = s .turn
 
@@ -118,15 +115,15 @@ module _ (l : Line) (g : ByTurns l) where
       won : Won
       unfolding winnable L.wins isOwned
       won =
-          let i = blockOf z t in
-          let a = currentTurn z p i ≡ᵇ t in let o = not (isOwned z p (l .head .k) i) in let b = (here l t) .claimed ≡ᵇ s .place in
-          let c : currentTurn z p i ≡ t = eqb→eq (currentTurn z p i) t (and-first a o (and-first (a && o) b w)) in
-          let v = current→window z p t (some-block l g) c in
-          let used : T (isUsed z p i) = le→leb i p (omega (arith, mod-le t (z .nb), v .low)) in
+          let i = blockOf (sizeIn l) t in
+          let a = currentTurn (sizeIn l) p i ≡ᵇ t in let o = not (isOwned (sizeIn l) p (l .head .k) i) in let b = (here l t) .claimed ≡ᵇ s .place in
+          let c : currentTurn (sizeIn l) p i ≡ t = eqb→eq (currentTurn (sizeIn l) p i) t (and-first a o (and-first (a && o) b w)) in
+          let v = current→window (sizeIn l) p t (some-block l g) c in
+          let used : T (isUsed (sizeIn l) p i) = le→leb i p (omega (arith, mod-le t (l .head .nb), v .low)) in
           let seen : DeskRule l (looked s) = rw e at (g .three .desks d) in
           record {
             turn = v;
-            above = nleb→lt t (l .head .k) (rw (T→true (isUsed z p i) used, c) at (and-second a o (and-first (a && o) b w)));
+            above = nleb→lt t (l .head .k) (rw (T→true (isUsed (sizeIn l) p i) used, c) at (and-second a o (and-first (a && o) b w)));
             still = eqb→eq ((here l t) .claimed) (s .place) (and-second (a && o) b w);
             space = seen .2 c;
           }
@@ -134,7 +131,7 @@ module _ (l : Line) (g : ByTurns l) where
       abbrev c : Block
       c = oneClaimed (here l t)
 
-      one-claimed : Stands z p (set (l .head .desks) d (numbersOf (holding (claimedAt s)))) t c
+      one-claimed : Stands (sizeIn l) p (set (l .head .desks) d (numbersOf (holding (claimedAt s)))) t c
       one-claimed = let o = g .turns t (won .turn) in record {
         round = o .round;
         fits = o .fits;
@@ -153,16 +150,16 @@ module _ (l : Line) (g : ByTurns l) where
       grows : Grows l t c
       grows = record { turn = won .turn; claims = omega arith; writes = omega arith; reading = λ k. absurd (omega (arith, won .above)) }
 
-      wins : Lawful z (withRecord z l (withDesk (l .head) d (holding (claimedAt s))) t c)
+      wins : Lawful (sizeIn l) (withRecord (sizeIn l) l (withDesk (l .head) d (holding (claimedAt s))) t c)
       wins =
           both (holding (claimedAt s)) t c grows one-claimed
           (λ u n. rw (e, neq→eqb t u (λ k. n (sym k))) refl)
-          (window→current z p t (some-block l g) (won .turn), rw (record-same z (l .table) t c (some-block l g) (g .blocks)) (omega (arith, won .still)))
+          (window→current (sizeIn l) p t (some-block l g) (won .turn), rw (record-same (sizeIn l) (l .table) t c (some-block l g) (g .blocks)) (omega (arith, won .still)))
           nobody
 
-    claim-lawful : (s : Spot) → was ≡ looked s → Lawful z ((claimStep z l d s) .line)
+    claim-lawful : (s : Spot) → was ≡ looked s → Lawful (sizeIn l) ((claimStep (sizeIn l) l d s) .line)
     unfolding claimStep
-    claim-lawful s e = by-test (λ (o : Outcome). Lawful z (o .line)) (winnable z l s) (wins s e) (λ _. becomes idle tt (λ u. rw e refl) (λ _ h. absurd h))
+    claim-lawful s e = by-test (λ (o : Outcome). Lawful (sizeIn l) (o .line)) (winnable (sizeIn l) l s) (wins s e) (λ _. becomes idle tt (λ u. rw e refl) (λ _ h. absurd h))
 
     -- ---- finish
 
@@ -171,9 +168,9 @@ module _ (l : Line) (g : ByTurns l) where
       held = x .at .turn
 
       held-turn : In l held
-      held-turn = let r : DeskRule l (holding x) = rw e at (g .three .desks d) in current→window z p held (some-block l g) (r .0)
+      held-turn = let r : DeskRule l (holding x) = rw e at (g .three .desks d) in current→window (sizeIn l) p held (some-block l g) (r .0)
 
-      one-finished : Stands z p (set (l .head .desks) d (numbersOf idle)) held (oneFinished (here l held))
+      one-finished : Stands (sizeIn l) p (set (l .head .desks) d (numbersOf idle)) held (oneFinished (here l held))
       one-finished = let o = g .turns held held-turn in record {
         round = o .round;
         fits = o .fits;
@@ -184,7 +181,7 @@ module _ (l : Line) (g : ByTurns l) where
         holders = omega (arith, o .holders, holders-set (l .head) d idle there held, held-one (holding x) (x .at) refl, ap (heldIn held) e);
       }
 
-      finish-lawful : Lawful z ((finishStep z l d x) .line)
+      finish-lawful : Lawful (sizeIn l) ((finishStep (sizeIn l) l d x) .line)
       unfolding finishStep
       finish-lawful =
           both idle held (oneFinished (here l held))
@@ -194,22 +191,22 @@ module _ (l : Line) (g : ByTurns l) where
     -- ---- the grid, a stage at a time
 
     abbrev At : ℕ → Hold Spot → DeskStep → Type 0
-    At n x s = Judged (deskDoes z l d x s) (atStage n (column s))
+    At n x s = Judged (deskDoes (sizeIn l) l d x s) (atStage n (column s))
 
     looks : (i : ℕ) (x : Hold Spot) → ((u : ℕ) → heldIn u was ≡ 0) → At 0 x (look i)
-    looks i x none = rw (does-look z l d x i) (look-lawful i none)
+    looks i x none = rw (does-look (sizeIn l) l d x i) (look-lawful i none)
 
     claimed-lawful : (x : Hold Spot) (s : DeskStep) → was ≡ holding x → At 2 x s
     claimed-lawful x (look i) e = unchanged
     claimed-lawful x claim e = unchanged
-    claimed-lawful x fetch e = rw (does-fetch z l d x) (fetch-lawful x e)
+    claimed-lawful x fetch e = rw (does-fetch (sizeIn l) l d x) (fetch-lawful x e)
     claimed-lawful x finish e = unchanged
 
     fetched-lawful : (x : Hold Spot) (s : DeskStep) → was ≡ holding x → At 3 x s
     fetched-lawful x (look i) e = unchanged
     fetched-lawful x claim e = unchanged
     fetched-lawful x fetch e = unchanged
-    fetched-lawful x finish e = rw (does-finish z l d x) (finish-lawful x e)
+    fetched-lawful x finish e = rw (does-finish (sizeIn l) l d x) (finish-lawful x e)
 
     at-stage : (x : Desk Spot) (s : DeskStep) → was ≡ x → At (stage x) (holdOf nowhere x) s
     at-stage idle (look i) e = looks i _ (λ u. ap (heldIn u) e)
@@ -217,16 +214,16 @@ module _ (l : Line) (g : ByTurns l) where
     at-stage idle fetch e = unchanged
     at-stage idle finish e = unchanged
     at-stage (looked s) (look i) e = looks i _ (λ u. ap (heldIn u) e)
-    at-stage (looked s) claim e = rw (does-claim z l d (claimedAt s)) (claim-lawful s e)
+    at-stage (looked s) claim e = rw (does-claim (sizeIn l) l d (claimedAt s)) (claim-lawful s e)
     at-stage (looked s) fetch e = unchanged
     at-stage (looked s) finish e = unchanged
     at-stage (holding x) s e = by-test (λ n. At n x s) (isFetched x) (λ _. fetched-lawful x s e) (λ _. claimed-lawful x s e)
 
-  own-desk : (d : ℕ) (s : DeskStep) → Lawful z ((deskStep z l d s (deskAt (l .head) d)) .line)
+  own-desk : (d : ℕ) (s : DeskStep) → Lawful (sizeIn l) ((deskStep (sizeIn l) l d s (deskAt (l .head) d)) .line)
   unfolding deskStep admitted
   own-desk d s =
-      by-test (Judged _) (z .t ≤ᵇ d) (λ _. unchanged) (λ b.
-      by-test (Judged _) (noBlock z s) (λ _. unchanged) (λ _. at-stage d (nleb→lt (z .t) d b) (deskAt (l .head) d) s refl))
+      by-test (Judged _) (l .head .t ≤ᵇ d) (λ _. unchanged) (λ b.
+      by-test (Judged _) (noBlock (sizeIn l) s) (λ _. unchanged) (λ _. at-stage d (nleb→lt (l .head .t) d b) (deskAt (l .head) d) s refl))
 
 pub desk-lawful : (z : Size) (l : Line) (d : ℕ) (s : DeskStep) → Lawful z l → Lawful z ((deskStep z l d s (deskAt (l .head) d)) .line)
 desk-lawful z l d s w =

@@ -2,30 +2,25 @@
 -- is from K to P, its place from claimed to written of that turn. Where the owner moves on, the new place is claimed of the next
 -- turn, which rule 6 bounds by written; where a label is handed over, the place was below written and grows by one.
 use mathlib.Core.Path.{subst}
-use mathlib.Core.Bool.{_&&_}
 use Prim.Native.Nat.{ℕ, zero, suc, _-_, _≤_, _<_}
 use native.Mathlib.Omega.{arith}
 use lib.Dec.{ltb→lt}
 use Rattle.book.specs.Choice.{_<ᵇ_, _≡ᵇ_}
 use Rattle.book.specs.Sizes.{Size}
 use Rattle.book.proofs.Choice.{by-test, and-second}
-use Rattle.line.specs.Line.{Line, Spot, Outcome, sizeOf, withHead, getAt, takenOver, reach, readAt, getStep}
+use Rattle.line.specs.Line.{Line, Spot, Outcome, withHead, getAt, takenOver, reach, readAt, getStep, sizeIn, here}
 use Rattle.line.specs.Agrees.{Lawful}
 use Rattle.line.proofs.Onward.{by-moves}
-use Rattle.line.proofs.Cells.{here}
 use Rattle.line.proofs.ByTurns.{ByTurns, told, lawful}
 
 module _ (l : Line) (g : ByTurns l) where
-  abbrev z : Size
-  z = sizeOf (l .head)
-
   record Readable (s : Spot) : Type 0 where
     low : l .head .k ≤ s .turn
     high : s .turn ≤ l .head .p
     from : (here l (s .turn)) .claimed ≤ s .place
     to : s .place ≤ (here l (s .turn)) .written
 
-  moves : (s : Spot) → Readable s → Lawful z (withHead l (getAt (l .head) s))
+  moves : (s : Spot) → Readable s → Lawful (sizeIn l) (withHead l (getAt (l .head) s))
   moves s r = lawful (withHead l (getAt (l .head) s)) (record {
     valid = g .valid;
     blocks = g .blocks;
@@ -39,32 +34,32 @@ module _ (l : Line) (g : ByTurns l) where
   })
 
   -- the owner moves on
-  on : (s : Spot) → Readable s → s .turn < l .head .p → Readable (takenOver z (l .table) s)
+  on : (s : Spot) → Readable s → s .turn < l .head .p → Readable (takenOver (sizeIn l) (l .table) s)
   on s r b =
       let c = g .turns (suc (s .turn)) (record { low = b; high = omega (arith, g .one .near, r .low) }) in
       record { low = omega (arith, r .low); high = b; from = omega arith; to = c .claims }
 
-  reach-readable : (n : ℕ) (s : Spot) → Readable s → Readable (reach z n (l .table) (l .head .p) s)
+  reach-readable : (n : ℕ) (s : Spot) → Readable s → Readable (reach (sizeIn l) n (l .table) (l .head .p) s)
   unfolding reach
   reach-readable zero s r = r
   reach-readable (suc n) s r =
-      by-moves z (l .head .p) (here l (s .turn)) s Readable (λ _. r)
-      (λ _ m. reach-readable n _ (on s r (ltb→lt (s .turn) (l .head .p) (and-second (s .place ≡ᵇ z .ne) (s .turn <ᵇ l .head .p) m))))
+      by-moves (sizeIn l) (l .head .p) (here l (s .turn)) s Readable (λ _. r)
+      (λ _ m. reach-readable n _ (on s r (ltb→lt (s .turn) (l .head .p) (and-second (s .place ≡ᵇ l .head .ne) (s .turn <ᵇ l .head .p) m))))
       (λ _ _. r)
 
-  read-lawful : (s : Spot) → Readable s → Lawful z ((readAt z l s) .line)
+  read-lawful : (s : Spot) → Readable s → Lawful (sizeIn l) ((readAt (sizeIn l) l s) .line)
   unfolding readAt
   read-lawful s r =
       let next : Spot = record { turn = s .turn; place = suc (s .place) } in
-      by-test (λ (o : Outcome). Lawful z (o .line)) (s .place <ᵇ (here l (s .turn)) .written)
+      by-test (λ (o : Outcome). Lawful (sizeIn l) (o .line)) (s .place <ᵇ (here l (s .turn)) .written)
       (λ b. moves next (record { low = r .low; high = r .high; from = omega (arith, r .from); to = ltb→lt (s .place) ((here l (s .turn)) .written) b }))
       (λ _. moves s r)
 
-  own-get : Lawful z ((getStep z l) .line)
+  own-get : Lawful (sizeIn l) ((getStep (sizeIn l) l) .line)
   unfolding getStep
   own-get =
       let s : Spot = record { turn = l .head .k; place = l .head .reading } in
-      read-lawful _ (reach-readable (z .nb - 1) s (record { low = omega arith; high = g .one .below; from = g .two .from; to = g .two .to }))
+      read-lawful _ (reach-readable (l .head .nb - 1) s (record { low = omega arith; high = g .one .below; from = g .two .from; to = g .two .to }))
 
 pub get-lawful : (z : Size) (l : Line) → Lawful z l → Lawful z ((getStep z l) .line)
 get-lawful z l w = subst (λ (x : Size). Lawful x l → Lawful x ((getStep x l) .line)) (w .size) (λ v. own-get l (told l v)) w

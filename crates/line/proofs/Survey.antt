@@ -14,7 +14,7 @@ use Rattle.words.specs.declared.Answer.{Answer}
 use Rattle.words.specs.declared.Answer.the-variants.{Put, Got, Took, Whole, Seen, Claimed, Done, Refused}
 use Rattle.words.specs.declared.Refusal.{Refusal}
 use Rattle.book.specs.Total.{total}
-use Rattle.book.specs.Sizes.{Size, fits}
+use Rattle.book.specs.Sizes.{fits}
 use Rattle.book.specs.declared.DeskStep.the-variants.{Look as look}
 use Rattle.book.specs.declared.Deed.the-variants.{Desk as desk}
 use Rattle.book.specs.Steps.{Step, idle, decode}
@@ -22,7 +22,7 @@ use Rattle.book.specs.declared.Verdict.{Verdict}
 use Rattle.book.specs.declared.Verdict.the-variants.{Takes as takes, Refuses as refuses}
 use Rattle.book.specs.Verdicts.{judge, admitted}
 use Rattle.book.proofs.Choice.{by-test, choose-true, choose-false, and-first, le→true, gt→false}
-use Rattle.line.specs.Line.{Line, Spot, Outcome, sizeOf, deskAt, deskDoes, deskStep, does}
+use Rattle.line.specs.Line.{Line, Spot, Outcome, sizeOf, deskAt, deskStep, does, sizeIn}
 use Rattle.line.specs.Rules.{Sound}
 use Rattle.line.specs.Check.{fit}
 use Rattle.line.specs.Calls.{step}
@@ -129,24 +129,21 @@ judge-answer takes x f = refl
 judge-answer (refuses w) x f = refl
 
 module _ (l : Line) where
-  abbrev z : Size
-  z = sizeOf (l .head)
-
   abbrev seen : ℕ → ℕ → Bool
-  seen d b = isSeen ((deskStep z l d (look b) idle) .answer)
+  seen d b = isSeen ((deskStep (sizeIn l) l d (look b) idle) .answer)
 
   -- every desk of the line sees the same
-  admitted-same : (d e b : ℕ) → d < l .head .t → e < l .head .t → admitted z {A = Spot} d (look b) idle ≡ admitted z {A = Spot} e (look b) idle
+  admitted-same : (d e b : ℕ) → d < l .head .t → e < l .head .t → admitted (sizeIn l) {A = Spot} d (look b) idle ≡ admitted (sizeIn l) {A = Spot} e (look b) idle
   unfolding admitted
   admitted-same d e b h k = rw (gt→false (l .head .t) d h, gt→false (l .head .t) e k) refl
 
-  look-same : (d e b : ℕ) → (lookStep z l d b) .answer ≡ (lookStep z l e b) .answer
+  look-same : (d e b : ℕ) → (lookStep (sizeIn l) l d b) .answer ≡ (lookStep (sizeIn l) l e b) .answer
   unfolding lookStep
   look-same d e b = simp judge-answer
 
   seen-same : (d e b : ℕ) → d < l .head .t → e < l .head .t → seen d b ≡ seen e b
   unfolding deskStep
-  seen-same d e b h k = simp (judge-answer, admitted-same d e b h k, does-look z l d, does-look z l e, look-same d e b)
+  seen-same d e b h k = simp (judge-answer, admitted-same d e b h k, does-look (sizeIn l) l d, does-look (sizeIn l) l e, look-same d e b)
 
   -- and none sees a block that is not there
   seen-past : (d b : ℕ) → d < l .head .t → l .head .nb ≤ b → seen d b ≡ false
@@ -169,13 +166,13 @@ module _ (l : Line) where
   abbrev blocks : List Bool
   blocks = seenFrom l 0 (l .head .nb)
 
-  at-most-64 : T (fit z (l .table) (l .entries)) → length blocks ≤ 64
+  at-most-64 : T (fit (sizeIn l) (l .table) (l .entries)) → length blocks ≤ 64
   unfolding fit
   at-most-64 f =
-      let a = fits z in let b = eqb (length (l .table)) (z .nb) in let c = eqb (length (l .entries)) (z .nb * z .ne) in
-      omega (arith, seen-length (l .head .nb) 0, valid z (and-first a b (and-first (a && b) c f)) .nb-most)
+      let a = fits (sizeIn l) in let b = eqb (length (l .table)) (l .head .nb) in let c = eqb (length (l .entries)) (l .head .nb * l .head .ne) in
+      omega (arith, seen-length (l .head .nb) 0, valid (sizeIn l) (and-first a b (and-first (a && b) c f)) .nb-most)
 
-  module _ (f : T (fit z (l .table) (l .entries))) (s : Sound l) where
+  module _ (f : T (fit (sizeIn l) (l .table) (l .entries))) (s : Sound l) where
     survey-is : survey l ≡ views blocks
     unfolding survey surveys CheckSound
     survey-is = rw (check-sound l .1 (f, s)) refl
@@ -186,7 +183,7 @@ module _ (l : Line) where
         let there : getD blocks b false ≡ seen 0 (0 + b) = seen-at (omega arith) (l .head .nb) 0 b (omega arith) in
         rw survey-is (mask-bit blocks b ∙ ap bit (rw (zero-add, seen-same 0 d b (omega arith) h) at there))
 
-    step-look : (d b : ℕ) (x : Step) → deskAt (l .head) d ≡ idle → decode x ≡ desk d (look b) → step l x ≡ deskStep z l d (look b) idle
+    step-look : (d b : ℕ) (x : Step) → deskAt (l .head) d ≡ idle → decode x ≡ desk d (look b) → step l x ≡ deskStep (sizeIn l) l d (look b) idle
     unfolding does
     step-look d b x i e = step-does l x f s ∙ rw (e, i) refl
 

@@ -9,6 +9,8 @@ use Rattle.words.specs.declared.Refusal.the-variants.{Unfit, Damaged, Badstep, 
 use Rattle.words.specs.declared.Refusal.the-variants.{Lost, Notlabel, Range, Worn, Full, Busy, Empty}
 use Rattle.book.specs.Sizes.{Size}
 use Rattle.book.specs.Steps.{Step, idle, looked}
+use Rattle.book.specs.Messages.{raw, put, get, order, claim, fetch, finish, look}
+use Rattle.book.specs.Cases.{Exchange, _⇒_}
 use Rattle.line.specs.Line.{Line, Outcome, says, numbersOf, opened}
 use Rattle.line.specs.Calls.{Opened, open·line, open·unfit, opens, step, orders, answers, after}
 use Rattle.line.specs.Survey.{Surveyed, surveyed, survey·unfit, survey·damaged, Findings, survey}
@@ -17,45 +19,11 @@ use Rattle.line.specs.Samples.{withP, withK, withReading, withDesk, with
 
 -- ---- runs
 
--- a step by its code and its two numbers
-abbrev code : ℕ → ℕ → ℕ → Step
-code n a b = record { code = n; a = a; b = b }
-
-abbrev put : ℕ → Step
-put a = code 0 a 0
-
-abbrev get : Step
-get = code 1 0 0
-
-abbrev order : ℕ → ℕ → Step
-order a b = code 2 a b
-
--- by desk d; a look is at block i
-abbrev claim : ℕ → Step
-claim d = code (16 + d) 0 0
-
-abbrev fetch : ℕ → Step
-fetch d = code (32 + d) 0 0
-
-abbrev finish : ℕ → Step
-finish d = code (48 + d) 0 0
-
-abbrev look : ℕ → ℕ → Step
-look d i = code (64 + d) i 0
-
-pub record ByTurns : Type 0 where
-  pub step : Step
-  pub answer : Answer
-
-infix 70 _gives_
-abbrev _gives_ : Step → Answer → ByTurns
-s gives a = record { step = s; answer = a }
-
 pub record Run : Type 0 where
   pub line : Line
-  pub told : List ByTurns
+  pub told : List Exchange
 
-abbrev from : Line → List ByTurns → Run
+abbrev from : Line → List Exchange → Run
 from l ts = record { line = l; told = ts }
 
 abbrev pub Answers : List Run → Type 0
@@ -65,107 +33,98 @@ Answers rs = map (λ r. answers (r .line) (map (λ t. t .step) (r .told))) rs �
 abbrev listing : Run
 listing =
     from (opened (size 2 2 2)) (
-    order 1 5 gives Refused Full 4
-    ∷ look 0 1 gives Seen 0
-    ∷ look 1 1 gives Seen 0
-    ∷ claim 0 gives Claimed 0
-    ∷ claim 1 gives Refused Lost 0
-    ∷ get gives Got 1
-    ∷ get gives Got 2
-    ∷ get gives Got 4
-    ∷ put 5 gives Put 5
-    ∷ put 6 gives Put 6
-    ∷ put 7 gives Refused Full 0
-    ∷ get gives Got 5
-    ∷ put 7 gives Refused Busy 0
-    ∷ fetch 0 gives Took 3
-    ∷ finish 0 gives Done
-    ∷ put 7 gives Put 7
-    ∷ get gives Got 6
-    ∷ get gives Got 7
-    ∷ get gives Refused Empty 0
-    ∷ look 1 0 gives Refused Owned 0
+    order 1 5 ⇒ Refused Full 4
+    ∷ look 0 1 ⇒ Seen 0
+    ∷ look 1 1 ⇒ Seen 0
+    ∷ claim 0 ⇒ Claimed 0
+    ∷ claim 1 ⇒ Refused Lost 0
+    ∷ get ⇒ Got 1
+    ∷ get ⇒ Got 2
+    ∷ get ⇒ Got 4
+    ∷ put 5 ⇒ Put 5
+    ∷ put 6 ⇒ Put 6
+    ∷ put 7 ⇒ Refused Full 0
+    ∷ get ⇒ Got 5
+    ∷ put 7 ⇒ Refused Busy 0
+    ∷ fetch 0 ⇒ Took 3
+    ∷ finish 0 ⇒ Done
+    ∷ put 7 ⇒ Put 7
+    ∷ get ⇒ Got 6
+    ∷ get ⇒ Got 7
+    ∷ get ⇒ Refused Empty 0
+    ∷ look 1 0 ⇒ Refused Owned 0
     ∷ [])
 
 unfoldable pub ListingCases : Type 0
 ListingCases = Answers (listing ∷ [])
 
--- the block is filled again behind the look: place 0 of turn 1, and then of turn 3
-abbrev refilled : Run
-refilled =
+-- a desk has seen place 0 of turn 1, and the owner has taken the block over behind the look
+abbrev behind : List Exchange → Run
+behind ts =
     from (opened (size 2 1 1)) (
-    put 1 gives Put 1
-    ∷ put 2 gives Put 2
-    ∷ look 0 1 gives Seen 0
-    ∷ get gives Got 1
-    ∷ get gives Got 2
-    ∷ put 3 gives Put 3
-    ∷ get gives Got 3
-    ∷ put 4 gives Put 4
-    ∷ claim 0 gives Refused Lost 0
-    ∷ [])
+    put 1 ⇒ Put 1
+    ∷ put 2 ⇒ Put 2
+    ∷ look 0 1 ⇒ Seen 0
+    ∷ get ⇒ Got 1
+    ∷ get ⇒ Got 2
+    ∷ ts)
 
--- the block is taken over behind the look
 abbrev owned : Run
-owned =
-    from (opened (size 2 1 1)) (
-    put 1 gives Put 1
-    ∷ put 2 gives Put 2
-    ∷ look 0 1 gives Seen 0
-    ∷ get gives Got 1
-    ∷ get gives Got 2
-    ∷ claim 0 gives Refused Lost 0
-    ∷ [])
+owned = behind (claim 0 ⇒ Refused Lost 0 ∷ [])
+
+-- the block is filled again: place 0 of turn 3 stands there
+abbrev refilled : Run
+refilled = behind (put 3 ⇒ Put 3 ∷ get ⇒ Got 3 ∷ put 4 ⇒ Put 4 ∷ claim 0 ⇒ Refused Lost 0 ∷ [])
 
 -- the tests in the order of the refusals' numbers; numbers not named are ignored
 abbrev tested : Run
 tested =
     from middle (
-    code 3 0 0 gives Refused Badstep 0
-    ∷ code 15 0 0 gives Refused Badstep 0
-    ∷ code 80 0 0 gives Refused Badstep 0
-    ∷ look 4 9 gives Refused Nodesk 0
-    ∷ claim 4 gives Refused Nodesk 0
-    ∷ look 0 2 gives Refused Noblock 0
-    ∷ look 0 1 gives Refused Stage 0
+    raw 3 0 0 ⇒ Refused Badstep 0
+    ∷ raw 15 0 0 ⇒ Refused Badstep 0
+    ∷ raw 80 0 0 ⇒ Refused Badstep 0
+    ∷ look 4 9 ⇒ Refused Nodesk 0
+    ∷ claim 4 ⇒ Refused Nodesk 0
+    ∷ look 0 2 ⇒ Refused Noblock 0
+    ∷ look 0 1 ⇒ Refused Stage 0
     -- a refused second look leaves the first
-    ∷ look 1 0 gives Refused Owned 0
-    ∷ code 17 9 9 gives Claimed 1
-    ∷ look 3 1 gives Refused Nothing 0
+    ∷ look 1 0 ⇒ Refused Owned 0
+    ∷ raw 17 9 9 ⇒ Claimed 1
+    ∷ look 3 1 ⇒ Refused Nothing 0
     -- LOST leaves no look
-    ∷ claim 3 gives Refused Lost 0
-    ∷ claim 3 gives Refused Stage 0
+    ∷ claim 3 ⇒ Refused Lost 0
+    ∷ claim 3 ⇒ Refused Stage 0
     ∷ [])
 
 -- FULL before BUSY, and neither once the desk has finished; an order counts what it placed
 abbrev awaited : Run
 awaited =
     from middle (
-    order 12 13 gives Refused Full 1
-    ∷ put 1000000 gives Refused Notlabel 0
-    ∷ order 1 1000000 gives Refused Range 0
-    ∷ order 2 1 gives Refused Range 0
-    ∷ put 13 gives Refused Full 0
-    ∷ get gives Got 11
-    ∷ put 13 gives Refused Busy 0
-    ∷ finish 2 gives Done
-    ∷ code 0 13 9 gives Put 13
-    ∷ get gives Got 12
-    ∷ get gives Got 13
+    order 12 13 ⇒ Refused Full 1
+    ∷ put 1000000 ⇒ Refused Notlabel 0
+    ∷ order 1 1000000 ⇒ Refused Range 0
+    ∷ order 2 1 ⇒ Refused Range 0
+    ∷ put 13 ⇒ Refused Full 0
+    ∷ get ⇒ Got 11
+    ∷ put 13 ⇒ Refused Busy 0
+    ∷ finish 2 ⇒ Done
+    ∷ raw 0 13 9 ⇒ Put 13
+    ∷ get ⇒ Got 12
+    ∷ get ⇒ Got 13
     ∷ [])
 
 -- a get passes a block whose labels are all claimed
 abbrev passed : Run
-passed = from (stolen 0) (get gives Got 5 ∷ get gives Refused Empty 0 ∷ [])
+passed = from (stolen 0) (get ⇒ Got 5 ∷ get ⇒ Refused Empty 0 ∷ [])
 
 -- the last of sixteen desks
 abbrev sixteenth : Run
 sixteenth =
     from (ends (won 3)) (
-    fetch 15 gives Took 8
-    ∷ finish 15 gives Done
-    ∷ look 15 1 gives Refused Nothing 0
-    ∷ code 80 1 0 gives Refused Badstep 0
+    fetch 15 ⇒ Took 8
+    ∷ finish 15 ⇒ Done
+    ∷ look 15 1 ⇒ Refused Nothing 0
+    ∷ raw 80 1 0 ⇒ Refused Badstep 0
     ∷ [])
 
 unfoldable pub RunCases : Type 0
@@ -173,16 +132,16 @@ RunCases = Answers (refilled ∷ owned ∷ tested ∷ awaited ∷ passed ∷ six
 
 -- the last turn of all, and behind it WORN: before FULL, behind NOTLABEL and RANGE
 abbrev last-turn : Run
-last-turn = from (read 131070 131070 65535 65534) (put 7 gives Put 7 ∷ put 8 gives Refused Worn 0 ∷ get gives Got 7 ∷ put 8 gives Refused Worn 0 ∷ [])
+last-turn = from (read 131070 131070 65535 65534) (put 7 ⇒ Put 7 ∷ put 8 ⇒ Refused Worn 0 ∷ get ⇒ Got 7 ∷ put 8 ⇒ Refused Worn 0 ∷ [])
 
 abbrev last-order : Run
-last-order = from (read 131070 131070 65535 65534) (order 7 9 gives Refused Worn 1 ∷ [])
+last-order = from (read 131070 131070 65535 65534) (order 7 9 ⇒ Refused Worn 1 ∷ [])
 
 abbrev worn : Run
-worn = from (read 131071 131071 65535 65535) (put 7 gives Refused Worn 0 ∷ put 1000000 gives Refused Notlabel 0 ∷ order 9 8 gives Refused Range 0 ∷ [])
+worn = from (read 131071 131071 65535 65535) (put 7 ⇒ Refused Worn 0 ∷ put 1000000 ⇒ Refused Notlabel 0 ∷ order 9 8 ⇒ Refused Range 0 ∷ [])
 
 abbrev worn-full : Run
-worn-full = from (read 131071 131070 65535 65535) (put 7 gives Refused Worn 0 ∷ [])
+worn-full = from (read 131071 131070 65535 65535) (put 7 ⇒ Refused Worn 0 ∷ [])
 
 unfoldable pub WornCases : Type 0
 WornCases = Answers (last-turn ∷ last-order ∷ worn ∷ worn-full ∷ [])
@@ -246,10 +205,10 @@ RefusedCases =
     Does (
     -- the line is unfit, or damaged: nothing else is read
     did short (put 1) short (Refused Unfit 0)
-    ∷ did (withK 1 short) (code 99 0 0) (withK 1 short) (Refused Unfit 0)
+    ∷ did (withK 1 short) (raw 99 0 0) (withK 1 short) (Refused Unfit 0)
     ∷ did (withK 1 fresh) (put 1) (withK 1 fresh) (Refused Damaged 0)
     ∷ did (withFinished 1 1 started) get (withFinished 1 1 started) (Refused Damaged 0)
-    ∷ did (withRound 2 1 started) (code 99 0 0) (withRound 2 1 started) (Refused Damaged 0)
+    ∷ did (withRound 2 1 started) (raw 99 0 0) (withRound 2 1 started) (Refused Damaged 0)
     ∷ did (withStage 4 4 middle) (order 1 9) (withStage 4 4 middle) (Refused Damaged 0)
     -- LOST leaves the desk idle, EMPTY keeps its moves, an order keeps what it placed
     ∷ did middle (claim 3) (withDesk 3 idle middle) (Refused Lost 0)
@@ -344,7 +303,13 @@ OpeningCases =
     ∷ leaves (opened (size 2 65 1)) (size 2 65 1)
     ∷ leaves fresh (size 2 2 0)
     ∷ leaves fresh (size 2 2 17)
+    -- NB 64 opens
+    ∷ blanks (opened (size 64 1 1)) (size 64 1 1) (opened (size 64 1 1))
     ∷ [])
+
+-- NB 1 UNFIT, and NB 65 UNFIT, whatever else is asked for and lent
+unfoldable pub OpeningUnfit : Type 0
+OpeningUnfit = (l : Line) (ne t : ℕ) → OpensTo (leaves l (size 1 ne t) ∷ leaves l (size 65 ne t) ∷ [])
 
 -- ---- a desk that a step makes idle, and each of opening's, is written as zeros
 

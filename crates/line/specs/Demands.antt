@@ -2,20 +2,25 @@
 -- same name in small letters.
 use mathlib.Core.Path.{_≡_}
 use mathlib.Core.Logic.{_≢_, _↔_}
-use mathlib.Core.List.{List, _∷_, _++_, map}
+use mathlib.Core.List.{List, [], _∷_, _++_, map}
 use Prim.Native.Nat.{ℕ, zero, suc, _+_, _-_, _/_, _%_, _^_, _≤_, _<_}
 use lib.Dec.{T}
+use lib.ListN.{length}
 use Rattle.words.specs.declared.Answer.the-variants.{Whole, Seen, Refused}
 use Rattle.words.specs.declared.Refusal.{Refusal}
-use Rattle.words.specs.declared.Refusal.the-variants.{Unfit, Damaged, Lost, Range, Empty}
-use Rattle.book.specs.Sizes.{Size, fits, isOrder}
+use Rattle.words.specs.declared.Refusal.the-variants.{Unfit, Damaged, Lost, Range, Worn, Empty}
+use Rattle.book.specs.Sizes.{Size, sized, fits, isOrder}
 use Rattle.book.specs.declared.DeskStep.the-variants.{Look as look, Claim as claim}
 use Rattle.book.specs.declared.Deed.{Deed}
 use Rattle.book.specs.declared.Deed.the-variants.{Get as get, Order as order, Desk as desk}
-use Rattle.book.specs.Steps.{Step, idle, decode}
+use Rattle.book.specs.Steps.{Step, Hold, idle, holding, decode}
 use Rattle.book.specs.declared.Verdict.the-variants.{Refuses as refuses}
 use Rattle.book.specs.Book as B
-use Rattle.book.specs.Counts.{placed, got, took, won, lost, unfetched, waiting, handed, times, bound}
+use Rattle.book.specs.Messages.{put}
+use Rattle.book.specs.WornCases.{putAndGet, placedAndGot}
+use Rattle.book.specs.Choice.{if_then_else_}
+use Rattle.book.specs.Counts.{placed, got, took, won, lost, unfetched, timesHeld, waiting, handed, times, timesUnfetched, timesWaiting, bound}
+use Rattle.book.specs.Order.{placedLabels}
 use Rattle.line.specs.Line.{Line, Outcome, sizeOf, deskAt, getAt, withDesk, withHead, recordOf, deskStep, mayPut, opened}
 use Rattle.line.specs.Rules.{Sound, RuleAt, ruleNumber, inOrder, Obeys}
 use Rattle.line.specs.Check.{sound, unfit, broken, fit, check}
@@ -48,6 +53,20 @@ pub record FirstBroken (l : Line) (place rule : ℕ) : Type 0 where
 
 unfoldable pub CheckBroken : Type 0
 CheckBroken = (l : Line) (place rule : ℕ) → check l ≡ broken place rule → Fit l × FirstBroken l place rule
+
+-- and where a rule is the first broken, the check names it and its place
+unfoldable pub CheckNames : Type 0
+CheckNames = (l : Line) (place rule : ℕ) → Fit l → FirstBroken l place rule → check l ≡ broken place rule
+
+-- entries are not checked: whatever as many entries hold, check and survey are the same
+abbrev pub withEntries : Line → List ℕ → Line
+withEntries l es = record { head = l .head; table = l .table; entries = es }
+
+unfoldable pub CheckUnread : Type 0
+CheckUnread = (l : Line) (es : List ℕ) → length es ≡ length (l .entries) → check (withEntries l es) ≡ check l
+
+unfoldable pub SurveyUnread : Type 0
+SurveyUnread = (l : Line) (es : List ℕ) → length es ≡ length (l .entries) → survey (withEntries l es) ≡ survey l
 
 -- ---- demand 1: what is refused before the code is looked at
 
@@ -124,6 +143,11 @@ EmptyLeaves =
     → let p = l .head .p in
     (step l s) .line ≡ withHead l (getAt (l .head) (record { turn = p; place = (recordOf (sizeOf (l .head)) (l .table) p) .written }))
 
+-- ---- one get moves at most NB - 1 blocks
+
+unfoldable pub LineGetMoves : Type 0
+LineGetMoves = (l : Line) (s : Step) → decode s ≡ get → let k = (step l s) .line .head .k in (l .head .k ≤ k) × (k - l .head .k ≤ l .head .nb - 1)
+
 -- ---- sound in, sound out
 
 unfoldable pub SoundOut : Type 0
@@ -159,6 +183,24 @@ LineHanded =
     (z : Size) (ss : List Step) → T (fits z)
     → let rows = B.leaves z (B.opened z) ss in
     (handed (answers (opened z) ss) ≡ map (λ n. (B.rowAt ((B.after z (B.opened z) ss) .rows) n) .label) rows) × ((n : ℕ) → times n rows ≤ 1)
+
+-- and no label is lost or invented: a row that is gone left once, or one desk has claimed it and not fetched; no other row did; what
+-- left, and what desks hold, are rows of labels placed; and the labels got and fetched, claimed but unfetched, and waiting are those
+-- placed, each as often
+unfoldable pub LineRowsKept : Type 0
+LineRowsKept =
+    (z : Size) (ss : List Step) → T (fits z)
+    → let l = answers (opened z) ss in
+    let b = B.after z (B.opened z) ss in
+    let rows = B.leaves z (B.opened z) ss in
+    ((n : ℕ) → times n rows + timesHeld n b ≡ (if (B.rowAt (b .rows) n) .gone then 1 else 0))
+    × ((n : ℕ) → 0 < times n rows → n < placed l)
+    × ((d : ℕ) (h : Hold ℕ) → B.deskAt b d ≡ holding h → h .at < placed l)
+    × ((a : ℕ) → times a (handed l) + timesUnfetched a b + timesWaiting a b ≡ times a (placedLabels ss l))
+
+-- NE 1, NB 2, put and get by turns: 131,072 labels placed, then WORN
+unfoldable pub LineWornRun : Type 0
+LineWornRun = answers (opened (sized 2 1 1)) (putAndGet 131072 ++ (put 1 ∷ [])) ≡ placedAndGot 131072 ++ (Refused Worn 0 ∷ [])
 
 -- ---- the survey
 

@@ -251,3 +251,11 @@ module _ (z : Size) where
     table = replicate (z .nb) unused;
     entries = replicate (z .nb * z .ne) 0;
   }
+
+-- ---- of a line: its size, and the record of turn t's block
+
+abbrev pub sizeIn : Line → Size
+sizeIn l = sizeOf (l .head)
+
+abbrev pub here : Line → ℕ → Block
+here l t = recordOf (sizeIn l) (l .table) t

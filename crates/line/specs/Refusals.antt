@@ -13,16 +13,10 @@ use Rattle.book.specs.declared.Deed.the-variants.{Put as put, Get as get, Order
 use Rattle.book.specs.Steps.{looked}
 use Rattle.book.specs.declared.Verdict.the-variants.{Takes as takes, Refuses as refuses}
 use Rattle.book.specs.Verdicts.{stage, column, atStage}
-use Rattle.line.specs.Line.{Line, Block, Spot, deskAt, sizeOf, recordOf, withLabel, mayPut}
+use Rattle.line.specs.Line.{Line, Spot, deskAt, withLabel, mayPut, sizeIn, here}
 use Rattle.line.specs.Rules.{Current}
 
 module _ (l : Line) where
-  abbrev z : Size
-  z = sizeOf (l .head)
-
-  abbrev here : ℕ → Block
-  here t = recordOf z (l .table) t
-
   -- a look names a block of the line
   abbrev pub OnLine : DeskStep → Type 0
   OnLine (look i) = i < l .head .nb
@@ -39,7 +33,7 @@ module _ (l : Line) where
   -- a put of label a that has to start turn P + 1
   pub record Starts (a : ℕ) : Type 0 where
     pub label : a ≤ highestLabel
-    pub full : l .head .ne ≤ (here (l .head .p)) .written
+    pub full : l .head .ne ≤ (here l (l .head .p)) .written
 
   abbrev next : ℕ
   next = l .head .p + 1
@@ -51,23 +45,23 @@ module _ (l : Line) where
   When Nodesk e = (d : ℕ) × (s : DeskStep) × (e ≡ desk d s) × (l .head .t ≤ d)
   When Noblock e = (d : ℕ) × (i : ℕ) × (e ≡ desk d (look i)) × (d < l .head .t) × (l .head .nb ≤ i)
   When Stage e = (d : ℕ) × (s : DeskStep) × (e ≡ desk d s) × (d < l .head .t) × OnLine s × (atStage (stage (deskAt (l .head) d)) (column s) ≡ refuses Stage)
-  When Owned e = (d : ℕ) × (i : ℕ) × (e ≡ desk d (look i)) × Takes d (look i) × (i ≤ l .head .p) × (currentTurn z (l .head .p) i ≤ l .head .k)
+  When Owned e = (d : ℕ) × (i : ℕ) × (e ≡ desk d (look i)) × Takes d (look i) × (i ≤ l .head .p) × (currentTurn (sizeIn l) (l .head .p) i ≤ l .head .k)
   When Nothing e =
       (d : ℕ) × (i : ℕ) × (e ≡ desk d (look i)) × Takes d (look i)
-      × ((l .head .p < i) ⊎ ((i ≤ l .head .p) × (l .head .k < currentTurn z (l .head .p) i) × ((here (currentTurn z (l .head .p) i)) .claimed ≡ (here (currentTurn z (l .head .p) i)) .written)))
+      × ((l .head .p < i) ⊎ ((i ≤ l .head .p) × (l .head .k < currentTurn (sizeIn l) (l .head .p) i) × ((here l (currentTurn (sizeIn l) (l .head .p) i)) .claimed ≡ (here l (currentTurn (sizeIn l) (l .head .p) i)) .written)))
   When Lost e =
       (d : ℕ) × (s : Spot) × (e ≡ desk d claim) × (d < l .head .t) × (deskAt (l .head) d ≡ looked s)
-      × (Current l (s .turn) × (l .head .k < s .turn) × ((here (s .turn)) .claimed ≡ s .place) → ⊥)
+      × (Current l (s .turn) × (l .head .k < s .turn) × ((here l (s .turn)) .claimed ≡ s .place) → ⊥)
   When Notlabel e = (a : ℕ) × (e ≡ put a) × (highestLabel < a)
   When Range e = (a : ℕ) × (b : ℕ) × (e ≡ order a b) × ((b < a) ⊎ (highestLabel < b))
-  When Worn e = (a : ℕ) × (e ≡ put a) × Starts a × (65536 ≤ roundOf z next)
-  When Full e = (a : ℕ) × (e ≡ put a) × Starts a × (roundOf z next < 65536) × (l .head .nb ≤ next) × (l .head .k ≤ next - l .head .nb)
+  When Worn e = (a : ℕ) × (e ≡ put a) × Starts a × (65536 ≤ roundOf (sizeIn l) next)
+  When Full e = (a : ℕ) × (e ≡ put a) × Starts a × (roundOf (sizeIn l) next < 65536) × (l .head .nb ≤ next) × (l .head .k ≤ next - l .head .nb)
   When Busy e =
-      (a : ℕ) × (e ≡ put a) × Starts a × (roundOf z next < 65536) × (l .head .nb ≤ next) × (next - l .head .nb < l .head .k)
-      × ((here (next - l .head .nb)) .finished < (here (next - l .head .nb)) .claimed)
+      (a : ℕ) × (e ≡ put a) × Starts a × (roundOf (sizeIn l) next < 65536) × (l .head .nb ≤ next) × (next - l .head .nb < l .head .k)
+      × ((here l (next - l .head .nb)) .finished < (here l (next - l .head .nb)) .claimed)
   When Empty e =
-      (e ≡ get) × (l .head .reading ≡ (here (l .head .k)) .written)
-      × ((t : ℕ) → l .head .k < t → t ≤ l .head .p → (here t) .claimed ≡ (here t) .written)
+      (e ≡ get) × (l .head .reading ≡ (here l (l .head .k)) .written)
+      × ((t : ℕ) → l .head .k < t → t ≤ l .head .p → (here l t) .claimed ≡ (here l t) .written)
 
 -- the line after n of an order's labels from a on are placed
 unfoldable pub afterPuts : Size → ℕ → Line → ℕ → Line

@@ -6,9 +6,9 @@ use Prim.Native.Nat.{ℕ, zero, suc, _+_, _-_, _*_, _≤_, _<_}
 use lib.ListN.{getD}
 use Rattle.book.specs.Choice.{if_then_else_, _≡ᵇ_}
 use Rattle.book.specs.Total.{total}
-use Rattle.book.specs.Sizes.{Size, blockOf, roundOf, currentTurn}
+use Rattle.book.specs.Sizes.{blockOf, roundOf, currentTurn}
 use Rattle.book.specs.Steps.{Desk, idle, looked, holding}
-use Rattle.line.specs.Line.{Line, Block, Spot, numbersOf, deskOf, deskAt, unused, sizeOf, recordOf}
+use Rattle.line.specs.Line.{Line, Block, Spot, numbersOf, deskOf, deskAt, unused, sizeIn, here}
 
 -- does this desk hold: in turn t, as a count; spot s
 abbrev pub heldIn : ℕ → Desk Spot → ℕ
@@ -22,15 +22,9 @@ Holds (looked x) s = ⊥
 Holds (holding h) s = h .at ≡ s
 
 module _ (l : Line) where
-  abbrev z : Size
-  z = sizeOf (l .head)
-
-  abbrev here : ℕ → Block
-  here t = recordOf z (l .table) t
-
   -- t is its block's current turn
   abbrev pub Current : ℕ → Type 0
-  Current t = currentTurn z (l .head .p) (blockOf z t) ≡ t
+  Current t = currentTurn (sizeIn l) (l .head .p) (blockOf (sizeIn l) t) ≡ t
 
   pub record Rule1 : Type 0 where
     pub below : l .head .k ≤ l .head .p
@@ -38,13 +32,13 @@ module _ (l : Line) where
     pub rounds : l .head .p < 65536 * l .head .nb
 
   pub record Rule2 : Type 0 where
-    pub from : (here (l .head .k)) .claimed ≤ l .head .reading
-    pub to : l .head .reading ≤ (here (l .head .k)) .written
+    pub from : (here l (l .head .k)) .claimed ≤ l .head .reading
+    pub to : l .head .reading ≤ (here l (l .head .k)) .written
 
   abbrev pub DeskRule : Desk Spot → Type 0
   DeskRule idle = Unit {0}
-  DeskRule (looked s) = (s .turn ≤ l .head .p) × (s .place < l .head .ne) × (Current (s .turn) → s .place < (here (s .turn)) .written)
-  DeskRule (holding h) = Current (h .at .turn) × (h .at .place < (here (h .at .turn)) .claimed)
+  DeskRule (looked s) = (s .turn ≤ l .head .p) × (s .place < l .head .ne) × (Current (s .turn) → s .place < (here l (s .turn)) .written)
+  DeskRule (holding h) = Current (h .at .turn) × (h .at .place < (here l (h .at .turn)) .claimed)
 
   -- a stage above 3 is no stage
   pub record Rule3 : Type 0 where
@@ -59,10 +53,10 @@ module _ (l : Line) where
     c = getD (l .table) i unused
 
     abbrev t : ℕ
-    t = currentTurn z (l .head .p) i
+    t = currentTurn (sizeIn l) (l .head .p) i
 
     pub record Rule4 : Type 0 where
-      pub round : i ≤ l .head .p → c .round ≡ roundOf z t
+      pub round : i ≤ l .head .p → c .round ≡ roundOf (sizeIn l) t
       pub zeros : l .head .p < i → c ≡ unused
 
     pub record Rule5 : Type 0 where

@@ -1,14 +1,7 @@
--- The cases of specs/Cases.antt, a list at a time, by computing. A definition that is changed gives another text, and the
--- list with such a case is refused.
+-- The cases of specs/Cases.antt, a list at a time, by computing. A definition that is changed gives another text, and
+-- the list with such a case is refused.
 use mathlib.Core.Path.{refl, ap}
-use Rattle.book.specs.Total.{total, any, all}
-use Rattle.book.specs.Sizes.{fits, isLabel, isOrder, currentTurn, isOwned}
-use Rattle.book.specs.Steps.{decode}
-use Rattle.book.specs.Verdicts.{admitted, lookable, startable, placeable}
-use Rattle.line.specs.Line as L
-use Rattle.line.specs.Rules.{ofBlocks, inOrder}
-use Rattle.line.specs.Check as C
-use Rattle.line.specs.Calls as Calls
+use Rattle.line.proofs.Cases.{calls}
 use Rattle.schedule.specs.Bytes as B
 use Rattle.player.specs.Spoken as S
 use Rattle.printing.specs.Text as T
@@ -19,24 +12,8 @@ use Rattle.player.specs.Cases.{ListingCases, HeaderCases, UnfitCases, Cu
 
 -- ---- what is computed with: to unfold one of these is to unfold all that it names
 
-shared : Unit {0}
-unfolding total any all fits isLabel isOrder currentTurn isOwned decode admitted lookable startable placeable
-shared = tt
-
-desks : Unit {0}
-unfolding L.deskOf L.recordOf L.entryOf L.labelAt L.lookStep L.winnable L.claimStep L.fetchStep L.finishStep L.deskDoes L.deskStep
-desks = tt
-
-owner : Unit {0}
-unfolding L.opened L.isBusy L.mayPut L.withLabel L.putStep L.putMany L.orderStep L.reach L.readAt L.getStep L.does
-owner = tt
-
-check : Unit {0}
-unfolding shared desks owner C.isCurrent C.deskHolds C.noClash C.isZeros C.holds1 C.holds2 C.holds3 C.holds4 C.holds5 C.holds6 C.holds7 C.holds ofBlocks inOrder C.fit C.firstBroken C.check
-check = tt
-
 schedule : Unit {0}
-unfolding check Calls.step Calls.answers B.isHeader B.stepsFrom B.stepsOf B.bytesOfAll S.numbered S.cutShort S.run S.playedWith S.played
+unfolding calls B.isHeader B.stepsFrom B.stepsOf B.bytesOfAll S.numbered S.cutShort S.run S.playedWith S.played
 schedule = tt
 
 print : Unit {0}

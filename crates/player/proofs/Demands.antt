@@ -1,9 +1,8 @@
 -- Demand 2 for the player, the refusals of a whole schedule, and a line for each step.
-use mathlib.Core.Path.{_≡_, refl, sym, ap, _∙_}
+use mathlib.Core.Path.{_≡_, refl, ap, _∙_}
 use mathlib.Core.Bool.{Bool, true, false, not, _&&_}
 use mathlib.Core.List.{List, [], _∷_, _++_}
 use Prim.Native.Nat.{ℕ, suc}
-use native.Mathlib.Omega.{arith}
 use lib.Dec.{T}
 use lib.ListN.{length, length-append}
 use Rattle.words.specs.declared.Answer.{Answer}
@@ -11,7 +10,7 @@ use Rattle.book.specs.Choice.{if_then_else_}
 use Rattle.book.specs.Sizes.{fits}
 use Rattle.book.specs.Steps.{Step}
 use Rattle.book.specs.Book as B
-use Rattle.book.proofs.Choice.{by-test, and-first, and-second, T→true, not→false}
+use Rattle.book.proofs.Choice.{and-first, and-second, T→true, not→false}
 use Rattle.line.specs.Line.{Line, opened}
 use Rattle.line.specs.Calls.{step, answers}
 use Rattle.line.specs.Demands.{Demand2}

@@ -15,7 +15,7 @@ use Rattle.book.proofs.Choice.{by-test, cases, choose-true, choose-false, T→t
 use Rattle.line.specs.declared.Block.{Block}
 use Rattle.line.specs.declared.Head.{Head}
 use Rattle.line.specs.Line.{Line, Outcome, says, unused, opened}
-use Rattle.line.specs.declared.Opening.{Opening as Told}
+use Rattle.line.specs.declared.Opening.{Opening}
 use Rattle.line.specs.declared.Opening.the-variants.{Open, Unfit}
 use Rattle.line.specs.Check.{fit}
 use Rattle.line.specs.Calls.{Opened, opens, step}
@@ -24,13 +24,13 @@ use Rattle.line.proofs.Cells.{Valid, valid, valid-of, blocks-of}
 use Rattle.line.proofs.Runs.{sound-out}
 use Rattle.line.proofs.Sound.{opened-lawful}
 use Rattle.line.specs.Demands.{SoundOut}
-use Rattle.engine.specs.declared.Outcome.{Outcome as OutcomeByValue}
-use Rattle.rules.specs.Lent.{lentTable, lineOf}
-use Rattle.engine.specs.Lent.{putBack, Given}
-use Rattle.engine.specs.declared.opening.Opened.{Opened as Opening}
-use Rattle.engine.specs.Opens.{begun, began, Opens}
-use Rattle.engine.specs.Promises.{Steps}
-use Rattle.rules.proofs.Lent.{lent-length}
+use Rattle.byvalue.specs.declared.Outcome.{Outcome as OutcomeByValue}
+use Rattle.byvalue.specs.Lent.{lentTable, lineOf}
+use Rattle.byvalue.specs.GivenBack.{putBack, Given}
+use Rattle.byvalue.specs.declared.OpeningOutcome.{OpeningOutcome}
+use Rattle.engine.specs.Promises.{GivesOpening, GivesStep}
+use Rattle.byvalue.specs.GivenBack.{begun, began}
+use Rattle.byvalue.proofs.Lent.{lent-length}
 use Rattle.rules.proofs.Records.{product}
 use Rattle.printing.specs.Writes.{Writes}
 use Rattle.player.specs.Parts.{storeEntries, entriesLent, Ready, Playable}
@@ -51,7 +51,7 @@ module _ (z : Size) (h : Head) (t : List Block) (n : ℕ) (es : List ℕ) (w : L
   unfolding SoundOut
   step-sound = sound-out z (lineOf h t n es) s w
 
-  pub step-line : (r : OutcomeByValue) (fs : List ℕ) → n ≡ z .nb → Steps h t n es s r fs → says (lineOf (r .head) (r .table) n fs) (r .answer) ≡ o
+  pub step-line : (r : OutcomeByValue) (fs : List ℕ) → n ≡ z .nb → GivesStep h t n es s r fs → says (lineOf (r .head) (r .table) n fs) (r .answer) ≡ o
   step-line r fs e p =
       let v = valid-of z (o .line) step-sound in
       let back = lent-back t (o .line .table) n (omega arith) (blocks-of z (o .line) step-sound ∙ sym e) in
@@ -83,13 +83,13 @@ module _ (z : Size) where
     unfolding opens
     opens-by = rw fit-sized refl
 
-    module _ (r : Opening) (fs : List ℕ) (p : Opens h t (z .nb) es z r fs) where
+    module _ (r : OpeningOutcome) (fs : List ℕ) (p : GivesOpening h t (z .nb) es z r fs) where
       -- what opening gives where the call comes to o
       gives : (o : Opened) → opens (lineOf h t (z .nb) es) z ≡ o → begun r fs ≡ began t (z .nb) o
       gives o e = p ∙ ap (began t (z .nb)) e
 
       answers : (o : Opened) → opens (lineOf h t (z .nb) es) z ≡ o → r .answer ≡ o .answer
-      answers o e = ap (λ (g : Given Told). g .answer) (gives o e)
+      answers o e = ap (λ (g : Given Opening). g .answer) (gives o e)
 
       pub opened-line : r .answer ≡ Open → T (fits z) × (lineOf (r .head) (r .table) (z .nb) fs ≡ opened z)
       unfolding opened
@@ -100,7 +100,7 @@ module _ (z : Size) where
           let g = gives _ (opens-by ∙ choose-true (fits z) _ _ f) in
           let back = lent-back t (replicate (z .nb) unused) (z .nb) (v .nb-most) (length-replicate (z .nb) unused) in (
             f,
-            ap (λ (g : Given Told). lineOf (g .head) (g .table) (z .nb) (g .entries)) g
+            ap (λ (g : Given Opening). lineOf (g .head) (g .table) (z .nb) (g .entries)) g
                 ∙ ap (λ (u : List Block). record { head = opened z .head; table = u; entries = opened z .entries }) back,
           ))
           (λ f. let k = answers _ (opens-by ∙ choose-false (fits z) _ _ f) in let no : _≡_ {A = ℕ} 0 1 = cc in absurd (omega arith))

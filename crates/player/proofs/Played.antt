@@ -6,12 +6,12 @@ use Rattle.book.specs.Sizes.{Size}
 use Rattle.book.specs.Steps.{Step}
 use Rattle.line.specs.declared.Block.{Block}
 use Rattle.line.specs.declared.Head.{Head}
-use Rattle.line.specs.Line.{Line, Outcome, says}
+use Rattle.line.specs.Line.{Outcome, says}
 use Rattle.line.specs.Calls.{step}
 use Rattle.line.specs.Agrees.{Lawful}
-use Rattle.engine.specs.declared.Outcome.{Outcome as OutcomeByValue}
-use Rattle.rules.specs.Lent.{lineOf}
-use Rattle.engine.specs.Promises.{Steps}
+use Rattle.byvalue.specs.declared.Outcome.{Outcome as OutcomeByValue}
+use Rattle.byvalue.specs.Lent.{lineOf}
+use Rattle.engine.specs.Promises.{GivesStep}
 use Rattle.schedule.specs.Bytes.{stepAt, wholeSteps}
 use Rattle.schedule.proofs.Bytes.{placeOf}
 use Rattle.printing.specs.Writes.{Writes}
@@ -22,7 +22,7 @@ use Rattle.player.proofs.Opened.{step-sound, step-line}
 
 module _ (z : Size) (h : Head) (t : List Block) (n : ℕ) (es : List ℕ) (sound : Lawful z (lineOf h t n es)) (blocks : n ≡ z .nb)
     (bs xs o₀ : List ℕ) (i at : ℕ) (o : List ℕ) (left : Continues bs xs o₀ i (lineOf h t n es) at o) where
-  pub step-played : (s : Step) (r : OutcomeByValue) (fs : List ℕ) (m p : ℕ) (o₁ : List ℕ) → i < wholeSteps bs → s ≡ stepAt bs (placeOf bs i) → Steps h t n es s r fs
+  pub step-played : (s : Step) (r : OutcomeByValue) (fs : List ℕ) (m p : ℕ) (o₁ : List ℕ) → i < wholeSteps bs → s ≡ stepAt bs (placeOf bs i) → GivesStep h t n es s r fs
       → m ≡ suc i → Writes at (line (spoken m (r .answer))) o p o₁
       → Lawful z (lineOf (r .head) (r .table) n fs) × Continues bs xs o₀ (i + 1) (lineOf (r .head) (r .table) n fs) p o₁
   step-played s r fs m p o₁ few e steps k w =

@@ -1,5 +1,5 @@
--- What is left to say once i steps are played and the line is l: it begins with the answer of step i + 1, and at the end
--- only a step cut short is left. Whoever writes the rest behind what is written has written the whole.
+-- What is left to say once i steps are played and the line is l: it begins with the answer of step i + 1, and at the
+-- end only a step cut short is left. Whoever writes the rest behind what is written has written the whole.
 use mathlib.Core.Path.{_≡_, refl, sym, subst, _∙_}
 use mathlib.Core.Bool.{Bool, true, false}
 use mathlib.Core.List.{List, [], _∷_, _++_, append-nil}
@@ -50,7 +50,8 @@ module _ (bs : List ℕ) where
 
   -- ---- what is written, and what is left
 
-  -- o holds text up to place at, with i steps played and the line l: whoever writes the rest there has written xs over o₀
+  -- o holds text up to place at, with i steps played and the line l: whoever writes the rest there
+  -- has written xs over o₀
   pub Continues : List ℕ → List ℕ → ℕ → Line → ℕ → List ℕ → Type 0
   Continues xs o₀ i l at o = (r : ℕ) (after : List ℕ) → Writes at (printed (restOf i l)) o r after → Writes 0 xs o₀ r after
 

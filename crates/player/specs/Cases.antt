@@ -1,5 +1,5 @@
--- Schedules, as bytes, and the text that playing them prints. proofs/Cases.antt computes them, and has the two that turn on
--- the limit of 64,808 bytes for every schedule of that length.
+-- Schedules, as bytes, and the text that playing them prints. proofs/Cases.antt computes them, and has the two that
+-- turn on the limit of 64,808 bytes for every schedule of that length.
 use mathlib.Core.Path.{_≡_}
 use mathlib.Core.Bool.{false}
 use mathlib.Core.List.{List, [], _∷_, _++_, map}
@@ -54,7 +54,8 @@ UnfitCases =
     (schedule 1 1 1 [] ∷ schedule 65 1 1 [] ∷ schedule 2 0 1 [] ∷ schedule 2 65 1 [] ∷ schedule 2 1 0 [] ∷ schedule 2 1 17 []
     ∷ schedule 0 0 0 (put 1 ∷ get ∷ []) ∷ (schedule 255 255 255 (put 1 ∷ []) ++ (0 ∷ [])) ∷ []))
 
--- a schedule of eight bytes says nothing; a step cut short is the last line, under the next number, with any of one to eight bytes
+-- a schedule of eight bytes says nothing; a step cut short is the last line, under the next number, with any of one to
+-- eight bytes
 unfoldable pub CutCases : Type 0
 CutCases =
     Printed

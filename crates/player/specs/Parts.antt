@@ -1,5 +1,5 @@
--- What the functions behind `play` promise and ask for: the room for a text, the entries that are lent, and what the line is
--- played with.
+-- What the functions behind `play` promise and ask for: the room for a text, the entries that are lent, and what the
+-- line is played with.
 use mathlib.Core.Path.{_≡_}
 use mathlib.Core.List.{List}
 use Prim.Native.Nat.{ℕ, _*_, _≤_}

@@ -1,5 +1,5 @@
--- The lines that playing a schedule says. A line is a number, a word and a value: the refusal of the whole schedule, or the
--- answer of each step, numbered from 1, and CUT where the last step is cut short.
+-- The lines that playing a schedule says. A line is a number, a word and a value: the refusal of the whole schedule, or
+-- the answer of each step, numbered from 1, and CUT where the last step is cut short.
 use mathlib.Core.List.{List, [], _∷_, _++_}
 use Prim.Native.Nat.{ℕ, suc}
 use Prim.Native.String.{String}

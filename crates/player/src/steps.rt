@@ -9,7 +9,7 @@ use schedule::reading::step_at;
 use schedule::reading::whole_steps;
 ghost use mathlib.Core.Path.{_≡_};
 ghost use Prim.Native.Nat.{suc, _<_};
-ghost use Rattle.rules.specs.Lent.{lineOf};
+ghost use Rattle.byvalue.specs.Lent.{lineOf};
 ghost use Rattle.printing.specs.Text.{numbersBelow};
 ghost use Rattle.printing.specs.Writes.{Writes};
 ghost use Rattle.player.specs.Spoken.{run};

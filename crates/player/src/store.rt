@@ -1,8 +1,8 @@
 // The store: a schedule that has its header opens a line in it, and its steps are played on that line.
 use crate::lines::write_only;
 use crate::steps::play_steps;
-use engine::opening::no_head;
-use engine::opening::no_table;
+use byvalue::no_head;
+use byvalue::no_table;
 use engine::opening::open;
 use line::Opening;
 use words::Answer;

@@ -8,7 +8,7 @@ use Rattle.words.specs.declared.Answer.{Answer}
 use Rattle.words.specs.declared.Answer.the-variants.{Put, Got, Took, Whole, Seen, Claimed, Done, Refused}
 use Rattle.words.specs.declared.Refusal.the-variants.{Unfit, Damaged, Badstep, Nodesk, Noblock, Stage, Owned, Nothing, Lost, Notlabel, Range, Worn, Full, Busy, Empty}
 use Rattle.words.specs.Words.{Said, said}
-use Rattle.words.proofs.Laws.{refusals}
+use Rattle.words.specs.Spelling.{refusals}
 use Rattle.book.specs.Choice.{if_then_else_, _≡ᵇ_}
 use Rattle.line.specs.declared.Opening.{Opening}
 use Rattle.line.specs.declared.Opening.the-variants.{Open, Unfit as NoLine}

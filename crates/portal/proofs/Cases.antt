@@ -7,40 +7,14 @@ use lib.Dec.{T, T-not, eqb, eqb-refl}
 use lib.ListN.{getD}
 use Rattle.words.specs.declared.Answer.the-variants.{Put, Refused}
 use Rattle.words.specs.declared.Refusal.the-variants.{Full}
-use Rattle.book.specs.Total.{total, any, all}
-use Rattle.book.specs.Sizes.{fits, isLabel, isOrder, currentTurn, isOwned}
-use Rattle.book.specs.Steps.{decode}
-use Rattle.book.specs.Verdicts.{admitted, lookable, startable, placeable}
 use Rattle.line.specs.declared.Checked.the-variants.{Broken}
 use Rattle.line.specs.declared.Opening.the-variants.{Open}
-use Rattle.line.specs.Line as L
 use Rattle.line.specs.Line.{Line, unused}
-use Rattle.line.specs.Rules.{ofBlocks, inOrder}
-use Rattle.line.specs.Check as C
-use Rattle.line.specs.Calls.{opens, step, orders}
 use Rattle.line.specs.Numbers.{CheckSaid, SurveySaid}
-use Rattle.line.specs.Survey.{seenFrom, maskOf, lowestFrom, views, surveys, survey}
 use Rattle.line.specs.Samples.{fresh, started}
+use Rattle.line.proofs.Cases.{calls}
 use Rattle.portal.specs.Promises.{Told, ToldOpening, Opens, Steps, Orders, Checks, Surveys}
 use Rattle.portal.specs.Cases.{put7, placed, StepCase, filled, OrderCase, three, anew, OpeningCase, torn, CheckCase, seen, SurveyCase}
-
--- ---- what is computed with: to unfold one of these is to unfold all that it names
-
-tests : Unit {0}
-unfolding total any all fits isLabel isOrder currentTurn isOwned decode admitted lookable startable placeable
-tests = tt
-
-rules : Unit {0}
-unfolding C.isCurrent C.deskHolds C.noClash C.isZeros C.holds1 C.holds2 C.holds3 C.holds4 C.holds5 C.holds6 C.holds7 C.holds
-rules = tt
-
-check : Unit {0}
-unfolding tests rules L.deskOf L.recordOf ofBlocks inOrder C.fit C.firstBroken C.check
-check = tt
-
-calls : Unit {0}
-unfolding check L.entryOf L.labelAt L.isBusy L.mayPut L.withLabel L.putStep L.putMany L.orderStep L.reach L.readAt L.getStep L.does L.opened opens step orders
-calls = tt
 
 -- ---- the numbers in which two outcomes differ: where one of them is allowed, the other is not
 
@@ -83,7 +57,7 @@ opening-case = record {
 }
 
 check-allowed : Checks torn (Broken 1 4)
-unfolding check
+unfolding calls
 check-allowed = refl
 
 pub check-case : CheckCase
@@ -94,7 +68,7 @@ check-case = record {
 }
 
 survey-allowed : Surveys started seen
-unfolding check L.lookStep L.deskDoes L.deskStep seenFrom maskOf lowestFrom views surveys survey
+unfolding calls
 survey-allowed = refl
 
 pub survey-case : SurveyCase

@@ -40,7 +40,7 @@ use Rattle.portal.specs.Demands.{OpeningSays, OpeningTold, StepGuarded, 
 use Rattle.portal.specs.Demands.{RefusalLeaves, StepRefusedLeaves, RefusalSays, StepRefusedWhen, OrderRefusedWhen}
 use Rattle.portal.specs.Demands.{Demand2, Counted, Handed, AlwaysSound, SurveySays, SurveyTold, Demand3}
 use Rattle.table.specs.Laid.{loaded}
-use Rattle.rules.specs.Lent.{lineOf}
+use Rattle.byvalue.specs.Lent.{lineOf}
 use Rattle.portal.proofs.FirstBroken.{first-named}
 use Rattle.portal.proofs.Lengths.{fit-long}
 use Rattle.portal.proofs.Outcomes as O

@@ -52,7 +52,7 @@ use Rattle.walk.proofs.Again.{at-list}
 use Rattle.walk.proofs.Entered.{proves, cites}
 use Rattle.walk.proofs.Numbers.{Numbers, Fit, ints, machine, stays, rows, numbers, spells, tells, vals, lasts, had, on}
 use Rattle.walk.proofs.Numbers.{numbers-args, machine-on, fit-on, stays-fit, typed, go-away, gone}
-use Rattle.walk.proofs.Locals.{none, Addrs, env, past, From, from-first, from-next, past-is, alloc-all, pass-all, free-all, free, from-at, opds-are, read-all}
+use Rattle.walk.proofs.Locals.{none, Addrs, env, past, From, from-first, from-four, past-is, alloc-all, pass-all, free-all, free, from-at, opds-are, read-all}
 use Rattle.portal.specs.Promises.{lent}
 use Rattle.portal.proofs.Changing as Changing
 use Rattle.portal.proofs.Changing.{Changes}
@@ -116,9 +116,7 @@ module _ (c : Calling) {M : Type 1} (𝓤 : URA M) (H : Heap 𝓤) (A : Atoms �
 
   -- ---- where the locals stand: the numbers, and those that are no parameters
   them : (e₀ e₁ e₂ e₃ : Ty × ℕ) (bs : Addrs (ints ws)) (F : List (Ty × ℕ)) → From (e₀ ∷ e₁ ∷ e₂ ∷ e₃ ∷ (env (ints ws) bs ++ F)) 4 (ints ws) bs
-  them e₀ e₁ e₂ e₃ bs F =
-      from-next e₀ (e₁ ∷ e₂ ∷ e₃ ∷ (env (ints ws) bs ++ F)) 3 (ints ws) bs (from-next e₁ (e₂ ∷ e₃ ∷ (env (ints ws) bs ++ F)) 2 (ints ws) bs
-      (from-next e₂ (e₃ ∷ (env (ints ws) bs ++ F)) 1 (ints ws) bs (from-next e₃ (env (ints ws) bs ++ F) 0 (ints ws) bs (from-first (ints ws) bs F))))
+  them e₀ e₁ e₂ e₃ bs F = from-four e₀ e₁ e₂ e₃ (env (ints ws) bs ++ F) 0 (ints ws) bs (from-first (ints ws) bs F)
 
   it : (bs : Addrs (ints ws)) (F : List (Ty × ℕ)) (j : ℕ) → getD (env (ints ws) bs ++ F) (past (ints ws) j) none ≡ getD F j none
   it = past-is (ints ws)

@@ -9,14 +9,13 @@ use Rattle.words.specs.declared.Refusal.the-variants.{Unfit as Refusal·unfit}
 use Rattle.book.specs.Choice.{_<ᵇ_}
 use Rattle.book.specs.Sizes.{Size, fits, isOrder, blockOf}
 use Rattle.book.specs.declared.DeskStep.{DeskStep}
-use Rattle.book.specs.declared.DeskStep.the-variants.{Look as look, Claim as claim, Fetch as fetch, Finish as finish}
 use Rattle.book.specs.declared.Deed.{Deed}
 use Rattle.book.specs.declared.Deed.the-variants.{Put as put, Get as get, Order as order, Desk as desk, Unlisted as unlisted}
-use Rattle.book.specs.Steps.{Step, decode, carried}
-use Rattle.book.specs.Verdicts.{admitted, lookable}
+use Rattle.book.specs.Steps.{Step, Hold, decode, holdOf}
+use Rattle.book.specs.Verdicts.{admitted}
 use Rattle.book.proofs.Choice.{by-test, by-verdict, cases, not→false, and-first, and-second}
 use Rattle.line.specs.Line.{Line, Outcome, Spot, sizeOf, nowhere, refuse, unused, deskAt, recordOf, mayPut, withLabel, putStep, putMany, orderStep}
-use Rattle.line.specs.Line.{readAt, getStep, winnable, lookStep, claimStep, fetchStep, finishStep, deskDoes, deskStep, does, opened}
+use Rattle.line.specs.Line.{readAt, getStep, deskDoes, deskStep, does, opened}
 use Rattle.line.specs.declared.Checked.the-variants.{Unfit}
 use Rattle.line.specs.declared.Opening.the-variants.{Unfit as NoLine}
 use Rattle.line.specs.declared.Surveyed.the-variants.{Unfit as NoSurvey}
@@ -30,11 +29,7 @@ use Rattle.line.proofs.Cells.{valid}
 module _ (z : Size) where
   stored-long : (l : Line) (a : ℕ) → length ((withLabel z l a) .table) ≡ length (l .table)
   unfolding withLabel
-  stored-long l a =
-      let p = l .head .p in
-      let c = recordOf z (l .table) p in
-      by-test (λ (m : Line). length (m .table) ≡ length (l .table)) (c .written <ᵇ z .ne)
-      (λ _. length-set (l .table) (blockOf z p) _) (λ _. length-set (l .table) _ _)
+  stored-long l a = length-set (l .table) _ _
 
   many-long : (n : ℕ) (l : Line) (a count : ℕ) → length ((putMany z n l a count) .line .table) ≡ length (l .table)
   unfolding putMany
@@ -55,12 +50,9 @@ module _ (z : Size) where
     unfolding readAt
     read-long s = by-test As-long (s .place <ᵇ (recordOf z (l .table) (s .turn)) .written) (λ _. refl) (λ _. refl)
 
-    taken-long : (d : ℕ) (s : Spot) (x : DeskStep) → As-long (deskDoes z l d s x)
-    unfolding deskDoes lookStep claimStep fetchStep finishStep
-    taken-long d s (look i) = by-verdict As-long (lookable z (l .head .p) (l .head .k) i _) (λ _. refl) (λ _ _. refl)
-    taken-long d s claim = by-test As-long (winnable z l s) (λ _. length-set (l .table) _ _) (λ _. refl)
-    taken-long d s fetch = refl
-    taken-long d s finish = length-set (l .table) _ _
+    desk-long : (d : ℕ) (h : Hold Spot) (s : DeskStep) → As-long (deskDoes z l d h s)
+    unfolding deskDoes
+    desk-long d h s = length-set (l .table) _ _
 
     does-long : (e : Deed) → As-long (does z l e)
     unfolding does putStep getStep deskStep
@@ -69,7 +61,7 @@ module _ (z : Size) where
     does-long (order a e) = order-long a e
     does-long (desk d s) =
         let x = deskAt (l .head) d in
-        by-verdict As-long (admitted z d s x) (λ _. taken-long d (carried nowhere x) s) (λ _ _. refl)
+        by-verdict As-long (admitted z d s x) (λ _. desk-long d (holdOf nowhere x) s) (λ _ _. refl)
     does-long unlisted = refl
 
 -- ---- the calls, on any line

@@ -29,16 +29,15 @@ use Rattle.line.specs.Numbers.{openingSaid, checkSaid, surveySaid}
 use Rattle.line.specs.Survey.{none, survey}
 use Rattle.table.specs.Laid.{laid, loaded, stored}
 use Rattle.table.proofs.Laws.{stored-loaded, stored-take}
-use Rattle.engine.specs.declared.Outcome.{Outcome as OutcomeByValue}
-use Rattle.engine.specs.declared.opening.Opened.{Opened}
-use Rattle.rules.specs.Lent.{lentTable, lineOf}
+use Rattle.byvalue.specs.declared.Outcome.{Outcome as OutcomeByValue}
+use Rattle.byvalue.specs.declared.OpeningOutcome.{OpeningOutcome}
+use Rattle.byvalue.specs.Lent.{lentTable, lineOf}
 use Rattle.rules.specs.Promises as C
-use Rattle.engine.specs.Lent.{putBack, Given, givenBack, backOf}
+use Rattle.byvalue.specs.GivenBack.{putBack, Given, givenBack, backOf, begun as giveBegun}
 use Rattle.engine.specs.Promises as E
-use Rattle.engine.specs.Opens as E′
-use Rattle.rules.proofs.Lent.{lent-length}
+use Rattle.byvalue.proofs.Lent.{lent-length}
 use Rattle.rules.proofs.Entries.{lent-checked}
-use Rattle.engine.proofs.Lent.{put-lent}
+use Rattle.byvalue.proofs.GivenBack.{put-lent}
 use Rattle.portal.specs.Promises.{lent, told, Opens, Steps, Orders, Checks, Surveys}
 use Rattle.portal.proofs.Lengths.{step-long, orders-long, opens-long, check-many, survey-many, step-many, orders-many, opens-many}
 use Rattle.portal.proofs.Unread.{lent-surveyed}
@@ -115,23 +114,23 @@ module _ (h : Head) (ys : List Block) (es : List ℕ) where
       (λ l. (call l) .line) long (λ l m. ap (λ (o : Outcome). o .line) (many l m)) (givenBack r fs) e in
       λ j. record { line = o .0 j; answer = o .1 j }
 
-  pub stepped : (fs : List ℕ) (s : Step) (r : OutcomeByValue) → E.Steps h (loaded ys) (length ys) es s r fs
+  pub stepped : (fs : List ℕ) (s : Step) (r : OutcomeByValue) → E.GivesStep h (loaded ys) (length ys) es s r fs
       → Steps (lent h ys es) s (r .answer) (lent (r .head) (stored ys (r .table)) fs)
   stepped fs s r e = ap told (went (λ l. step l s) (λ l. step-long l s) (λ l m. step-many l m s) r fs e)
 
-  pub ordered : (fs : List ℕ) (first last : ℕ) (r : OutcomeByValue) → E.Orders h (loaded ys) (length ys) es first last r fs
+  pub ordered : (fs : List ℕ) (first last : ℕ) (r : OutcomeByValue) → E.GivesOrder h (loaded ys) (length ys) es first last r fs
       → Orders (lent h ys es) first last (r .answer) (lent (r .head) (stored ys (r .table)) fs)
   ordered fs first last r e = ap told (went (λ l. orders l first last) (λ l. orders-long l first last) (λ l m. orders-many l m first last) r fs e)
 
-  pub begun : (fs : List ℕ) (z : Size) (r : Opened) → E′.Opens h (loaded ys) (length ys) es z r fs
+  pub begun : (fs : List ℕ) (z : Size) (r : OpeningOutcome) → E.GivesOpening h (loaded ys) (length ys) es z r fs
       → Opens (lent h ys es) z (r .answer) (lent (r .head) (stored ys (r .table)) fs)
   begun fs z r e =
       let o = outcome h ys es (λ l. (opens l z) .answer) NoLine (λ l m. ap (λ (o : L.Opened). o .answer) (opens-many l m z))
-      (λ l. (opens l z) .line) (λ l. opens-long l z) (λ l m. ap (λ (o : L.Opened). o .line) (opens-many l m z)) (E′.begun r fs) e in
+      (λ l. (opens l z) .line) (λ l. opens-long l z) (λ l m. ap (λ (o : L.Opened). o .line) (opens-many l m z)) (giveBegun r fs) e in
       λ j. record { line = o .0 j; said = openingSaid (o .1 j) }
 
-  pub checked : (r : Checked) → C.Checks h (loaded ys) (length ys) (length es) r → Checks (lent h ys es) r
+  pub checked : (r : Checked) → C.GivesCheck h (loaded ys) (length ys) (length es) r → Checks (lent h ys es) r
   checked r e = ap checkSaid (lent-checked h (loaded ys) (length ys) es r e ∙ same-answer h ys es check Misfit check-many)
 
-  pub surveyed : (r : Findings) → E.Surveys h (loaded ys) (length ys) (length es) r → Surveys (lent h ys es) r
+  pub surveyed : (r : Findings) → E.GivesSurvey h (loaded ys) (length ys) (length es) r → Surveys (lent h ys es) r
   surveyed r e = ap surveySaid (lent-surveyed h (loaded ys) (length ys) es r e ∙ same-answer h ys es survey (none NoSurvey) survey-many)

@@ -1,4 +1,4 @@
--- What a core gives back: a struct of the answer, the head and the table afterwards. `Outcome` and `Opened` differ in
+-- What a core gives back: a struct of the answer, the head and the table afterwards. `Outcome` and `OpeningOutcome` differ in
 -- the answer's type only, an enum, so what a walk has to know of either is said here of any such struct.
 use mathlib.Core.Path.{_≡_}
 use mathlib.Core.List.{List, [], _∷_, map}
@@ -22,14 +22,14 @@ use Rattle.line.proofs.Head as T
 use Rattle.line.proofs.Head.Laws as T′
 use Rattle.line.proofs.Block as B
 use Rattle.line.proofs.Block.Laws as B′
-use Rattle.engine.specs.declared.Outcome.{Outcome as OutcomeByValue}
-use Rattle.engine.specs.declared.opening.Opened.{Opened}
+use Rattle.byvalue.specs.declared.Outcome.{Outcome as OutcomeByValue}
+use Rattle.byvalue.specs.declared.OpeningOutcome.{OpeningOutcome}
 use Rattle.words.proofs.Answer as N
 use Rattle.words.proofs.Answer.Laws as N′
 use Rattle.line.proofs.Opening as G
 use Rattle.line.proofs.Opening.Laws as G′
-use Rattle.engine.proofs.Outcome as S
-use Rattle.engine.proofs.opening.Opened as O
+use Rattle.byvalue.proofs.Outcome as S
+use Rattle.byvalue.proofs.OpeningOutcome as O
 use Rattle.walk.proofs.Fields.{array-of}
 use Rattle.portal.proofs.Rows.{RH, RT, head-val}
 
@@ -118,4 +118,4 @@ abbrev pub went : Result
 went = result N.the-type N′.the-field-laws N′.the-plain OutcomeByValue (S.the-type .name) (λ r. r .answer) (λ r. r .head) (λ r. r .table) (S.the-type .to-one)
 
 abbrev pub opened : Result
-opened = result G.the-type G′.the-field-laws G′.the-plain Opened (O.the-type .name) (λ r. r .answer) (λ r. r .head) (λ r. r .table) (O.the-type .to-one)
+opened = result G.the-type G′.the-field-laws G′.the-plain OpeningOutcome (O.the-type .name) (λ r. r .answer) (λ r. r .head) (λ r. r .table) (O.the-type .to-one)

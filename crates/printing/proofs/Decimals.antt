@@ -1,13 +1,12 @@
 -- Numbers in decimal: a number below 10 is its digit, any other the digits of its tenth and then its last one. So the
 -- digits are digits, they read back as the number, there is no zero in front, and a bound on the number bounds them.
-use mathlib.Core.Path.{_≡_, refl, sym, ap, subst, _∙_}
+use mathlib.Core.Path.{_≡_, refl, sym, ap, _∙_}
 use mathlib.Core.List.{List, [], _∷_, _++_}
-use Prim.Native.Nat.{ℕ, zero, suc, _+_, _*_, _^_, _/_, _%_, _≤_, _<_}
+use Prim.Native.Nat.{ℕ, zero, suc, _+_, _^_, _/_, _%_, _≤_, _<_}
 use native.Mathlib.Nat.{pow-suc}
 use native.Mathlib.Omega.{arith}
-use lib.Dec.{T, ltb, ltb→lt, nltb→le}
+use lib.Dec.{ltb, ltb→lt, nltb→le}
 use lib.ListN.{length, length-append}
-use Rattle.book.specs.Choice.{if_then_else_}
 use Rattle.book.proofs.Choice.{cases, lt→true, ge→false}
 use Rattle.printing.specs.Text.{digit, digits, decimal}
 

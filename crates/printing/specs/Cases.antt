@@ -1,7 +1,6 @@
 -- Numbers and lines, and what is printed of them. proofs/Cases.antt computes them.
 use mathlib.Core.Path.{_≡_}
-use mathlib.Core.List.{List, [], _∷_, map}
-use Prim.Native.Nat.{ℕ}
+use mathlib.Core.List.{[], _∷_, map}
 use lib.ListN.{length}
 use Rattle.words.specs.declared.Answer.the-variants.{Got, Done, Refused}
 use Rattle.words.specs.declared.Refusal.the-variants.{Full, Notlabel}

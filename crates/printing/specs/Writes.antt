@@ -1,5 +1,5 @@
--- What a function that writes promises: bytes stored from a place on, and the place behind them. And the room that it asks
--- for.
+-- What a function that writes promises: bytes stored from a place on, and the place behind them. And the room that it
+-- asks for.
 use mathlib.Core.Path.{_≡_}
 use mathlib.Core.List.{List}
 use Prim.Native.Nat.{ℕ, _+_, _≤_}
@@ -21,6 +21,7 @@ pub record Writes (at : ℕ) (xs before : List ℕ) (r : ℕ) (after : List ℕ)
   pub answer : r ≡ at + length xs
   pub bytes : after ≡ sets before at xs
 
--- a line has 25 bytes at most: a number of four digits, a word of eight letters, a value of ten digits, two spaces and a newline
+-- a line has 25 bytes at most: a number of four digits, a word of eight letters, a value of ten digits, two spaces and
+-- a newline
 abbrev pub lineMost : ℕ
 lineMost = 25

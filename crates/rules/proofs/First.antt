@@ -13,11 +13,11 @@ use Rattle.line.specs.declared.Head.{Head}
 use Rattle.line.specs.Line.{Line, sizeOf}
 use Rattle.line.specs.Rules.{Rule, rule1, rule2, rule3, rule4, rule5, rule6, rule7, ruleNumber, RuleAt, ask, ofBlocks, inOrder}
 use Rattle.line.specs.Check.{fit, holds, firstBroken, check}
-use Rattle.rules.specs.Lent.{lentTable, lineOf}
+use Rattle.byvalue.specs.Lent.{lentTable, lineOf}
 use Rattle.ring.specs.Ring.{Ring}
 use Rattle.line.specs.Tests.{fitting}
 use Rattle.rules.proofs.Lengths.{fit-by, sized}
-use Rattle.rules.proofs.Entries.{first-entries}
+use Rattle.line.proofs.Unread.{broken-unread}
 use Rattle.rules.proofs.Plain.{bare}
 
 -- ---- UNFIT, or the rules in order
@@ -48,7 +48,7 @@ module _ (h : Head) (tb : List Block) (n m : ℕ) where
           ring = record { some = omega (arith, v .nb); few = v .nb-most; stands = refl };
           same = s .blocks;
           order = rw (fits-by, e)
-              (first-entries h tb n (replicate m 0) [] (inOrder (h .nb)) ∙ ap (λ (k : ℕ). firstBroken (lineOf h tb k []) (inOrder (h .nb))) (s .blocks));
+              (broken-unread (lineOf h tb n []) (replicate m 0) (inOrder (h .nb)) ∙ ap (λ (k : ℕ). firstBroken (lineOf h tb k []) (inOrder (h .nb))) (s .blocks));
         }
 
 -- ---- the rules of the head, then those of a block

@@ -11,9 +11,9 @@ use Rattle.book.proofs.Choice.{and-first, and-second}
 use Rattle.line.specs.declared.Block.{Block}
 use Rattle.line.specs.Check.{fit}
 use Rattle.line.proofs.Cells.{Valid, valid}
-use Rattle.rules.specs.Lent.{lentTable}
+use Rattle.byvalue.specs.Lent.{lentTable}
 use Rattle.line.specs.Tests.{fitting}
-use Rattle.rules.proofs.Lent.{lent-length}
+use Rattle.byvalue.proofs.Lent.{lent-length}
 
 pub fit-by : (z : Size) (t : List Block) (n : ℕ) (es : List ℕ) → length t ≡ 64 → fit z (lentTable t n) es ≡ fitting z n (length es)
 unfolding fit

@@ -1,4 +1,3 @@
-pub mod Lent
 pub mod Lengths
 pub mod Entries
 pub mod First

@@ -16,11 +16,11 @@ use Rattle.line.specs.declared.Head.{Head}
 use Rattle.line.specs.Line.{Line, deskOf, unused, sizeOf, recordOf}
 use Rattle.line.specs.Rules.{heldIn}
 use Rattle.line.specs.Rules as R
-use Rattle.rules.specs.Lent.{lentTable, lineOf}
+use Rattle.byvalue.specs.Lent.{lentTable, lineOf}
 use Rattle.line.specs.Tests.{deskObeys, obeys1, isIdle, isRecent, noClash, obeys2, obeys3, obeys4, obeys5, obeys6, obeys7}
 use Rattle.line.specs.Check.{holds}
 use Rattle.ring.specs.Ring.{Ring}
-use Rattle.rules.proofs.Lent.{lent-at}
+use Rattle.byvalue.proofs.Lent.{lent-at}
 use Rattle.rules.proofs.Stages.{of-desk, idle-of}
 use Rattle.rules.proofs.Walks.{rest, all-cong}
 

@@ -5,7 +5,7 @@ use Prim.Native.Nat.{ℕ}
 use Rattle.line.specs.declared.Block.{Block}
 use Rattle.line.specs.declared.Checked.{Checked}
 use Rattle.line.specs.declared.Head.{Head}
-use Rattle.rules.specs.Promises.{Checks}
+use Rattle.rules.specs.Promises.{GivesCheck}
 
-pub checks-unique : (h : Head) (t : List Block) (n m : ℕ) (r s : Checked) → Checks h t n m r → Checks h t n m s → r ≡ s
-checks-unique h t n m r s p q = p ∙ sym q
+pub check-unique : (h : Head) (t : List Block) (n m : ℕ) (r s : Checked) → GivesCheck h t n m r → GivesCheck h t n m s → r ≡ s
+check-unique h t n m r s p q = p ∙ sym q

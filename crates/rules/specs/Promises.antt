@@ -7,7 +7,7 @@ use Rattle.line.specs.declared.Block.{Block}
 use Rattle.line.specs.declared.Checked.{Checked}
 use Rattle.line.specs.declared.Head.{Head}
 use Rattle.line.specs.Check.{check}
-use Rattle.rules.specs.Lent.{lineOf}
+use Rattle.byvalue.specs.Lent.{lineOf}
 
-abbrev pub Checks : Head → List Block → ℕ → ℕ → Checked → Type 0
-Checks h t n m r = r ≡ check (lineOf h t n (replicate m 0))
+abbrev pub GivesCheck : Head → List Block → ℕ → ℕ → Checked → Type 0
+GivesCheck h t n m r = r ≡ check (lineOf h t n (replicate m 0))

@@ -7,7 +7,7 @@ mod blocks;
 mod desks;
 mod head;
 
-ghost use Rattle.rules.specs.Promises.{Checks};
+ghost use Rattle.rules.specs.Promises.{GivesCheck};
 use blocks::rule4;
 use blocks::rule5;
 use blocks::rule6;
@@ -26,7 +26,7 @@ use ring::current_turn;
 
 // The check of a head, of the table's first n records, and of m entries. Place 64 is the head.
 pub fn check(h: Head, table: [Block; 64], n: usize, m: usize) -> Checked
-    ensures { λ r. ⌜ Checks h table n m r ⌝ }
+    ensures { λ r. ⌜ GivesCheck h table n m r ⌝ }
 {
     let p = h.p;
     let k = h.k;

@@ -1,5 +1,5 @@
--- What holds of the bytes that are read: a header is eight bytes, and the steps that are left behind the first i are the
--- next one and those behind it.
+-- What holds of the bytes that are read: a header is eight bytes, and the steps that are left behind the first i are
+-- the next one and those behind it.
 use mathlib.Core.Path.{_≡_, refl, sym, ap, _∙_}
 use mathlib.Core.Bool.{Bool, true}
 use mathlib.Core.List.{List, [], _∷_}

@@ -1,15 +1,15 @@
 -- A schedule that is written is read back: its header, its numbers, its steps, and none of them cut short.
-use mathlib.Core.Path.{_≡_, refl, sym, ap, ap₂, subst, _∙_}
+use mathlib.Core.Path.{_≡_, refl, ap₂, subst, _∙_}
 use mathlib.Core.Bool.{true, false}
 use mathlib.Core.List.{List, [], _∷_, _++_, append-assoc}
-use Prim.Native.Nat.{ℕ, zero, suc, _+_, _-_, _*_, _/_, _%_}
+use Prim.Native.Nat.{ℕ, _+_, _-_, _*_, _%_}
 use native.Mathlib.Omega.{arith}
-use lib.ListN.{length, getD, length-append}
+use lib.ListN.{length, length-append}
 use lib.Seq.{getD-append-add}
 use Rattle.book.specs.Sizes.{Size}
 use Rattle.book.specs.Steps.{Step}
 use Rattle.book.proofs.Choice.{le→true}
-use Rattle.schedule.specs.Bytes.{headerBytes, stepBytes, numberIn, byteAt, numberAt, isHeader, sizeIn, stepAt, stepsFrom, wholeSteps, stepsOf, isCut, bytesIn, bytesOf, headerOf, bytesOfAll, scheduleOf}
+use Rattle.schedule.specs.Bytes.{headerBytes, stepBytes, byteAt, numberAt, isHeader, sizeIn, stepAt, stepsFrom, wholeSteps, stepsOf, isCut, bytesIn, bytesOf, headerOf, bytesOfAll, scheduleOf}
 
 -- ---- a step
 

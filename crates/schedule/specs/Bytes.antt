@@ -1,5 +1,5 @@
--- What a schedule's bytes mean: its header, with the numbers of the line, its steps, and whether the last of them is cut
--- short. And the other way: the bytes of a step, and of a schedule.
+-- What a schedule's bytes mean: its header, with the numbers of the line, its steps, and whether the last of them is
+-- cut short. And the other way: the bytes of a step, and of a schedule.
 use mathlib.Core.Bool.{Bool, not, _&&_}
 use mathlib.Core.List.{List, [], _∷_, _++_}
 use Prim.Native.Nat.{ℕ, zero, suc, _+_, _-_, _*_, _/_, _%_}

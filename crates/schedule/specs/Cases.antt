@@ -1,7 +1,7 @@
 -- Schedules, byte by byte, and what is read off them. proofs/Cases.antt computes them, and has the two that turn on the
 -- limit of 64,808 bytes for every schedule of that length.
 use mathlib.Core.Path.{_≡_}
-use mathlib.Core.Bool.{Bool, true, false}
+use mathlib.Core.Bool.{true, false}
 use mathlib.Core.List.{List, [], _∷_, _++_, map}
 use Prim.Native.Nat.{ℕ}
 use lib.ListN.{length, take, replicate}
@@ -12,8 +12,8 @@ use Rattle.schedule.specs.Bytes.{isLong, isHeader, sizeIn, wholeSteps, s
 
 -- ---- the header
 
--- nothing, a byte, seven bytes, each letter and each byte of the version wrong, the two bytes of the version the other way
--- round, a wrong version before numbers outside their limits, and zeros
+-- nothing, a byte, seven bytes, each letter and each byte of the version wrong, the two bytes of the version the other
+-- way round, a wrong version before numbers outside their limits, and zeros
 abbrev pub headerless : List (List ℕ)
 headerless =
     []

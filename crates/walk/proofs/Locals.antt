@@ -60,6 +60,13 @@ pub from-next : (e : Ty × ℕ) (E : List (Ty × ℕ)) (k : ℕ) (τs : List Ty)
 from-next e E k [] bs at = tt
 from-next e E k (τ ∷ τs) bs at = (at .0, from-next e E (suc k) τs (bs .1) (at .1))
 
+-- behind four others, as where a call's numbers stand behind its result and what it is lent
+pub from-four : (e₀ e₁ e₂ e₃ : Ty × ℕ) (E : List (Ty × ℕ)) (k : ℕ) (τs : List Ty) (bs : Addrs τs) → From E k τs bs
+    → From (e₀ ∷ e₁ ∷ e₂ ∷ e₃ ∷ E) (suc (suc (suc (suc k)))) τs bs
+from-four e₀ e₁ e₂ e₃ E k τs bs at =
+    from-next e₀ (e₁ ∷ e₂ ∷ e₃ ∷ E) (suc (suc (suc k))) τs bs (from-next e₁ (e₂ ∷ e₃ ∷ E) (suc (suc k)) τs bs
+    (from-next e₂ (e₃ ∷ E) (suc k) τs bs (from-next e₃ E k τs bs at)))
+
 pub from-first : (τs : List Ty) (bs : Addrs τs) (E : List (Ty × ℕ)) → From (env τs bs ++ E) 0 τs bs
 from-first [] bs E = tt
 from-first (τ ∷ τs) bs E = (refl, from-next (τ, bs .0) (env τs (bs .1) ++ E) 0 τs (bs .1) (from-first τs (bs .1) E))

@@ -1,6 +1,6 @@
 // A small line until it is worn: 2 blocks of 1 entry, put and get by turns. A schedule has too few steps for it.
-use engine::opening::no_head;
-use engine::opening::no_table;
+use byvalue::no_head;
+use byvalue::no_table;
 use engine::opening::open;
 use engine::step::step;
 use libc::STDOUT_FILENO;

@@ -1,4 +1,5 @@
--- The loop: i counts to a million, no more answers are refusals than there were steps, and the entries keep their length.
+-- The loop: i counts to a million, no more answers are refusals than there were steps, and the entries keep their
+-- length.
 use Prim.Native.Nat.{_≤_, _-_}
 use mathlib.Core.Path.{_≡_, _∙_}
 use lib.ListN.{length}

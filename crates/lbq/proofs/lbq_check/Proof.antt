@@ -11,8 +11,8 @@ use Rattle.portal.proofs.check.Symbol as called
 use Rattle.portal.proofs.check.Met as called-thm
 use Rattle.lbq.specs.Replies.{checkReply, ofCheck}
 use Rattle.lbq.specs.Promises.{RepliesCheck}
-use Rattle.lbq.proofs.CheckReply as R
-use Rattle.lbq.proofs.CheckReply.Laws as R′
+use Rattle.lbq.proofs.replies.CheckReply as R
+use Rattle.lbq.proofs.replies.CheckReply.Laws as R′
 use Rattle.lbq.proofs.replies.of_check.Symbol as reply
 use Rattle.lbq.proofs.replies.of_check.Met as reply-thm
 use Rattle.lbq.proofs.Reading.{reads}

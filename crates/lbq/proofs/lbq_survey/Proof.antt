@@ -10,8 +10,8 @@ use Rattle.portal.proofs.survey.Symbol as called
 use Rattle.portal.proofs.survey.Met as called-thm
 use Rattle.lbq.specs.Replies.{surveyReply, ofSurvey}
 use Rattle.lbq.specs.Promises.{RepliesSurvey}
-use Rattle.lbq.proofs.SurveyReply as R
-use Rattle.lbq.proofs.SurveyReply.Laws as R′
+use Rattle.lbq.proofs.replies.SurveyReply as R
+use Rattle.lbq.proofs.replies.SurveyReply.Laws as R′
 use Rattle.lbq.proofs.replies.of_survey.Symbol as reply
 use Rattle.lbq.proofs.replies.of_survey.Met as reply-thm
 use Rattle.lbq.proofs.Reading.{reads}

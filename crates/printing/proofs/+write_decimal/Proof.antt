@@ -28,7 +28,7 @@ module _ (t : ℕ) where
   abbrev claims : lts.Claims
   claims = (digit-of-reads.Asked, digit-of-reads.Learnt, write-byte-reads.Asked, write-byte-reads.Learnt, write-decimal-below t, write-decimal.Post)
 
-  -- ---- the places: the start of either branch, what the digits above the last leave, and the last byte of either branch
+  -- ---- the places: the start, what the digits above the last leave, and the last byte of either branch
 
   abbrev start : lts.After-slice-known claims (write-decimal-at t) write-decimal.Post → lts.Start claims (write-decimal-at t) write-decimal.Post
   start c = c .before

@@ -15,7 +15,7 @@ use Rattle.line.specs.Line.{Line, deskOf}
 use Rattle.line.specs.Rules.{heldIn, ofBlocks}
 use Rattle.line.specs.Rules as R
 use Rattle.line.specs.Check.{firstBroken, check, holds}
-use Rattle.rules.specs.Lent.{lineOf}
+use Rattle.byvalue.specs.Lent.{lineOf}
 use Rattle.ring.specs.Ring.{Ring}
 use Rattle.rules.specs.Holders.{isTurn}
 use Rattle.rules.proofs.First.{Fitted, is-unfit, is-fit, head-1, head-2, head-3, head-past, block-4, block-5, block-6, block-7, block-past, no-more}

@@ -8,7 +8,7 @@ use borrow.Author.Needs.{needs}
 use lib.ListN.{length}
 use Rattle.line.specs.Line.{sizeOf}
 use Rattle.line.specs.Agrees.{Lawful}
-use Rattle.rules.specs.Lent.{lineOf}
+use Rattle.byvalue.specs.Lent.{lineOf}
 use Rattle.schedule.specs.Bytes.{wholeSteps}
 use Rattle.printing.specs.Text.{numbersBelow}
 use Rattle.printing.specs.Writes.{lineMost}
@@ -29,7 +29,7 @@ Inv-loop input out₀ n entries₀ count head₀ table₀ at₀ i₀ out entries
 abbrev μ-loop : tie.MeasureT-loop
 μ-loop input out₀ n entries₀ count head₀ table₀ at₀ i₀ out entries head table at i = count - i
 
--- ---- the places: where the loop begins, in a turn the step and the line of its answer, and the line of a step cut short
+-- ---- the places: where the loop begins, a turn's step and the line of its answer, and the line of a step cut short
 
 abbrev first : tie.After-slice-known Inv-loop μ-loop → tie.Start Inv-loop μ-loop
 first c = c .before .before

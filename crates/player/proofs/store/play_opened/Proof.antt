@@ -11,7 +11,7 @@ use lib.Seq.{length-take-le, length-front, take-at}
 use Rattle.book.specs.Sizes.{Size, fits}
 use Rattle.line.specs.declared.Opening.the-variants.{Open}
 use Rattle.line.specs.Line.{opened}
-use Rattle.rules.specs.Lent.{lineOf}
+use Rattle.byvalue.specs.Lent.{lineOf}
 use Rattle.printing.proofs.Lines.{spelled-short}
 use Rattle.player.specs.Parts.{storeEntries}
 use Rattle.player.proofs.Only.{only-written}

@@ -1,2 +1,0 @@
--- Laws of the lent table: those of a line by value.
-pub use Rattle.byvalue.proofs.Lent.{lent-take, lent-at, lent-length}

@@ -1,2 +1,0 @@
--- The line that a call is lent: that of a line by value.
-pub use Rattle.byvalue.specs.Lent.{lentTable, lineOf}
