@@ -21,7 +21,7 @@ use Rattle.book.specs.WornCases.{putAndGet, placedAndGot}
 use Rattle.book.specs.Choice.{if_then_else_}
 use Rattle.book.specs.Counts.{placed, got, took, won, lost, unfetched, timesHeld, waiting, handed, times, timesUnfetched, timesWaiting, bound}
 use Rattle.book.specs.Order.{placedLabels}
-use Rattle.line.specs.Line.{Line, Outcome, sizeOf, deskAt, getAt, withDesk, withHead, recordOf, deskStep, mayPut, opened}
+use Rattle.line.specs.Line.{Line, Outcome, deskAt, getAt, withDesk, withHead, deskStep, mayPut, opened, sizeIn, here}
 use Rattle.line.specs.Rules.{Sound, RuleAt, ruleNumber, inOrder, Obeys}
 use Rattle.line.specs.Check.{sound, unfit, broken, fit, check}
 use Rattle.line.specs.Calls.{open·line, open·unfit, opens, step, orders, answers, after}
@@ -30,7 +30,7 @@ use Rattle.line.specs.Refusals.{When, afterPuts, Places}
 use Rattle.line.specs.Agrees.{Lawful, Agrees}
 
 abbrev Fit : Line → Type 0
-Fit l = T (fit (sizeOf (l .head)) (l .table) (l .entries))
+Fit l = T (fit (sizeIn l) (l .table) (l .entries))
 
 -- ---- demand 1: the check
 
@@ -108,12 +108,12 @@ RefusedWhen =
 -- an order: RANGE, else WHOLE with B - A + 1, or the refusal of the first put that is refused with the number placed
 pub record Ordered (l : Line) (a e : ℕ) (o : Outcome) : Type 0 where
   pub range : (n : ℕ) → (o .answer ≡ Refused Range n) ↔ (When l Range (order a e) × (n ≡ 0))
-  pub whole : (n : ℕ) → (o .answer ≡ Whole n) ↔ (T (isOrder a e) × (n ≡ suc e - a) × Places (sizeOf (l .head)) n l a)
+  pub whole : (n : ℕ) → (o .answer ≡ Whole n) ↔ (T (isOrder a e) × (n ≡ suc e - a) × Places (sizeIn l) n l a)
   pub stopped : (w : Refusal) (n : ℕ) → w ≢ Range
       → (o .answer ≡ Refused w n)
-      ↔ (T (isOrder a e) × (n < suc e - a) × Places (sizeOf (l .head)) n l a × (mayPut (sizeOf (l .head)) (afterPuts (sizeOf (l .head)) n l a) (a + n) ≡ refuses w))
-  pub placed : (n : ℕ) → o .answer ≡ Whole n → o .line ≡ afterPuts (sizeOf (l .head)) n l a
-  pub kept : (w : Refusal) (n : ℕ) → o .answer ≡ Refused w n → o .line ≡ afterPuts (sizeOf (l .head)) n l a
+      ↔ (T (isOrder a e) × (n < suc e - a) × Places (sizeIn l) n l a × (mayPut (sizeIn l) (afterPuts (sizeIn l) n l a) (a + n) ≡ refuses w))
+  pub placed : (n : ℕ) → o .answer ≡ Whole n → o .line ≡ afterPuts (sizeIn l) n l a
+  pub kept : (w : Refusal) (n : ℕ) → o .answer ≡ Refused w n → o .line ≡ afterPuts (sizeIn l) n l a
 
 unfoldable pub OrderedWhen : Type 0
 OrderedWhen = (l : Line) (a e : ℕ) → Fit l → Sound l → Ordered l a e (orders l a e)
@@ -141,7 +141,7 @@ unfoldable pub EmptyLeaves : Type 0
 EmptyLeaves =
     (l : Line) (s : Step) (n : ℕ) → Fit l → Sound l → decode s ≡ get → (step l s) .answer ≡ Refused Empty n
     → let p = l .head .p in
-    (step l s) .line ≡ withHead l (getAt (l .head) (record { turn = p; place = (recordOf (sizeOf (l .head)) (l .table) p) .written }))
+    (step l s) .line ≡ withHead l (getAt (l .head) (record { turn = p; place = (here l p) .written }))
 
 -- ---- one get moves at most NB - 1 blocks
 
@@ -223,7 +223,7 @@ Sees o = (place : ℕ) × (o .answer ≡ Seen place)
 
 pub record SurveyNames (l : Line) : Type 0 where
   -- bit b is set exactly if an idle desk's look at block b would be SEEN
-  pub bits : (d b : ℕ) → d < l .head .t → (bitAt ((survey l) .mask) b ≡ 1) ↔ Sees (deskStep (sizeOf (l .head)) l d (look b) idle)
+  pub bits : (d b : ℕ) → d < l .head .t → (bitAt ((survey l) .mask) b ≡ 1) ↔ Sees (deskStep (sizeIn l) l d (look b) idle)
   -- and so if the look of a desk that is idle is
   pub looks : (d b : ℕ) (s : Step) → deskAt (l .head) d ≡ idle → d < l .head .t → decode s ≡ desk d (look b) → (bitAt ((survey l) .mask) b ≡ 1) ↔ Sees (step l s)
   pub count : (survey l) .count ≡ ones 64 ((survey l) .mask)

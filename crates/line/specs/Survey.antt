@@ -8,7 +8,7 @@ use Rattle.book.specs.Choice.{if_then_else_}
 use Rattle.book.specs.Total.{total}
 use Rattle.book.specs.declared.DeskStep.the-variants.{Look as look}
 use Rattle.book.specs.Steps.{idle}
-use Rattle.line.specs.Line.{Line, sizeOf, deskStep}
+use Rattle.line.specs.Line.{Line, deskStep, sizeIn}
 use Rattle.line.specs.Check.{Checked, sound, unfit, broken, check}
 pub use Rattle.line.specs.declared.Surveyed.{Surveyed}
 pub use Rattle.line.specs.declared.Surveyed.the-variants.{Survey as surveyed, Unfit as survey·unfit, Damaged as survey·damaged}
@@ -27,7 +27,7 @@ isSeen (Refused w n) = false
 -- for n blocks from block i on: would an idle desk's look be SEEN
 unfoldable pub seenFrom : Line → ℕ → ℕ → List Bool
 seenFrom l i zero = []
-seenFrom l i (suc n) = isSeen ((deskStep (sizeOf (l .head)) l 0 (look i) idle) .answer) ∷ seenFrom l (suc i) n
+seenFrom l i (suc n) = isSeen ((deskStep (sizeIn l) l 0 (look i) idle) .answer) ∷ seenFrom l (suc i) n
 
 abbrev pub bit : Bool → ℕ
 bit b = if b then 1 else 0
