@@ -38,7 +38,7 @@ use Rattle.line.proofs.Survey as S
 use Rattle.portal.specs.Promises.{lent, Opens, Steps, Orders, Checks, Surveys}
 use Rattle.portal.specs.Demands.{OpeningSays, OpeningTold, StepGuarded, OrderGuarded, CheckTold, CheckUnread, SurveyUnread, Call, stepped, ordered, asStep, Allows, Runs, Run}
 use Rattle.portal.specs.Demands.{RefusalLeaves, StepRefusedLeaves, RefusalSays, StepRefusedWhen, OrderRefusedWhen}
-use Rattle.portal.specs.Demands.{Demand2, Counted, Handed, AlwaysSound, SurveySays, SurveyTold, Demand3}
+use Rattle.portal.specs.Demands.{Demand2, Counted, Handed, RowsKept, AlwaysSound, SurveySays, SurveyTold, Demand3}
 use Rattle.table.specs.Laid.{loaded}
 use Rattle.byvalue.specs.Lent.{lineOf}
 use Rattle.portal.proofs.FirstBroken.{first-named}
@@ -173,6 +173,10 @@ counted z cs rs m run = rw (book-answers z cs rs m run) (counting z (map asStep 
 pub handed : Handed
 unfolding Handed BD.Handed BD.NeverTwice
 handed z cs rs m run = rw (book-answers z cs rs m run) (H.handed-over z (map asStep cs), never-twice z (map asStep cs))
+
+pub rows-kept : RowsKept
+unfolding RowsKept D.LineRowsKept
+rows-kept z cs rs m run = rw (from-opened z cs rs m run .0) (R.line-rows-kept z (map asStep cs) (size-fits z cs rs m run))
 
 pub always-sound : AlwaysSound
 unfolding AlwaysSound D.AlwaysSound

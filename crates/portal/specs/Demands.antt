@@ -14,9 +14,11 @@ use Rattle.book.specs.Sizes.{Size}
 use Rattle.book.specs.declared.DeskStep.the-variants.{Look as look, Claim as claim}
 use Rattle.book.specs.declared.Deed.{Deed}
 use Rattle.book.specs.declared.Deed.the-variants.{Get as get, Order as order, Desk as desk}
-use Rattle.book.specs.Steps.{Step, idle, decode}
+use Rattle.book.specs.Choice.{if_then_else_}
+use Rattle.book.specs.Steps.{Step, idle, decode, Hold, holding}
 use Rattle.book.specs.Book as B
-use Rattle.book.specs.Counts.{placed, got, took, won, lost, unfetched, waiting, handed, times, bound}
+use Rattle.book.specs.Counts.{placed, got, took, won, lost, unfetched, timesHeld, waiting, handed, times, timesUnfetched, timesWaiting, bound}
+use Rattle.book.specs.Order.{placedLabels}
 use Rattle.line.specs.declared.Block.{Block}
 use Rattle.line.specs.declared.Head.{Head}
 use Rattle.line.specs.declared.Checked.{Checked}
@@ -148,6 +150,19 @@ Handed =
     → let rows = B.leaves z (B.opened z) (map asStep cs) in
     let book = B.after z (B.opened z) (map asStep cs) in
     (handed rs ≡ map (λ n. (B.rowAt (book .rows) n) .label) rows) × ((n : ℕ) → times n rows ≤ 1)
+
+-- no label is lost or invented: a row that is gone left once, or one desk has claimed it and not fetched; no other row did; what
+-- left, and what desks hold, are rows of labels placed; and the labels got and fetched, claimed but unfetched, and waiting are
+-- those placed, each as often
+unfoldable pub RowsKept : Type 0
+RowsKept =
+    (z : Size) (cs : List Call) (rs : List Answer) (m : Line) → Run z cs rs m
+    → let rows = B.leaves z (B.opened z) (map asStep cs) in
+    let book = B.after z (B.opened z) (map asStep cs) in
+    ((n : ℕ) → times n rows + timesHeld n book ≡ (if (B.rowAt (book .rows) n) .gone then 1 else 0))
+    × ((n : ℕ) → 0 < times n rows → n < placed rs)
+    × ((d : ℕ) (h : Hold ℕ) → B.deskAt book d ≡ holding h → h .at < placed rs)
+    × ((a : ℕ) → times a (handed rs) + timesUnfetched a book + timesWaiting a book ≡ times a (placedLabels (map asStep cs) rs))
 
 -- a line run from opening is always sound
 unfoldable pub AlwaysSound : Type 0
