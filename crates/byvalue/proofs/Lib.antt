@@ -1,4 +1,3 @@
 pub mod Lent
 pub mod GivenBack
 pub mod Ready
-pub mod Standing

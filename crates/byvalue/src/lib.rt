@@ -2,11 +2,9 @@
 // are changed in place.
 //
 // Here is what every step by value shares: what it gives (`Outcome`, `OpeningOutcome`), where a place stands
-// among the entries (`entries`), where a turn stands among the blocks (`ring`), and the records of a line that
-// is opened. specs/Lent.antt says which line is lent, specs/GivenBack.antt what is given back, and
+// among the entries (`entries`), and the records of a line that is opened. specs/Lent.antt says which line is lent, specs/GivenBack.antt what is given back, and
 // specs/Ready.antt what the check has shown.
 pub mod entries;
-pub mod ring;
 
 use line::Block;
 use line::Desk;

@@ -11,7 +11,7 @@ use Rattle.book.specs.Sizes.{Size, sized, blockOf, currentTurn, isOwned}
 use Rattle.line.specs.declared.Block.{Block}
 use Rattle.line.specs.Line.{Spot, wins}
 use Rattle.line.specs.Tests.{isRecent}
-use Rattle.byvalue.proofs.Standing.{current-recent, recent→le}
+use Rattle.ring.proofs.Backward.{current-recent, recent→le}
 
 module _ (nb p k : ℕ) (c : Block) (s : Spot) (pos : 1 ≤ nb) where
   abbrev z : Size

@@ -11,22 +11,22 @@ use book::Verdict;
 use byvalue::Outcome;
 use byvalue::entries::read_label;
 use byvalue::idle;
-use byvalue::ring::block_of;
-use byvalue::ring::current_turn;
 use line::Block;
 use line::Desk;
 use line::Head;
 use line::Moved;
+use ring::block_of;
+use ring::current_turn;
 use ring::is_current;
 use words::Answer;
 use words::Refusal;
 ghost use mathlib.Core.Path.{_≡_};
 ghost use mathlib.Core.Bool.{not};
-ghost use Prim.Native.Nat.{_%_, _≤_, _<_};
+ghost use Prim.Native.Nat.{ℕ, _%_, _≤_, _<_};
 ghost use Rattle.book.specs.Choice.{_≡ᵇ_};
 ghost use Rattle.book.specs.Sizes.{sized};
 ghost use Rattle.book.specs.Steps.{claimedAt};
-ghost use Rattle.book.specs.declared.DeskStep.the-variants.{Fetch as fetchStep};
+ghost use Rattle.book.specs.declared.DeskStep.the-variants.{Look as lookStep, Fetch as fetchStep};
 ghost use Rattle.book.specs.Verdicts.{column, noBlock, admitted, lookable};
 ghost use Rattle.line.specs.Line.{sizeOf, spotOf, deskOf, deskAt, lookOf, wins, claimOf, fetchOf, finishOf, movedBy, deskStep};
 ghost use Rattle.byvalue.specs.Lent.{lineOf};
@@ -72,13 +72,13 @@ fn may_step(nb: u32, x: Desk, s: DeskStep) -> Verdict
 
 // May a desk see something at block i, whose record is c. A block above P is unused, and not owned.
 pub fn may_look(nb: u32, p: u32, k: u32, i: u32, c: Block) -> Verdict
-    requires { ⌜ 1 ≤ nb ⌝ }
+    requires { ⌜ (nb ≤ 64) × (i < nb) ⌝ }
     ensures { λ r. ⌜ r ≡ lookable (sized nb 0 0) p k i (not (c .claimed ≡ᵇ c .written)) ⌝ }
 {
     if p < i {
         return Verdict::Refuses(Refusal::Nothing);
     }
-    if current_turn(nb, p, i) <= k {
+    if current_turn(nb, p, p % nb, i) <= k {
         return Verdict::Refuses(Refusal::Owned);
     }
     if c.claimed == c.written {
@@ -103,7 +103,7 @@ fn still_won(nb: u32, p: u32, k: u32, c: Block, x: Desk) -> bool
 }
 
 fn look(nb: u32, p: u32, k: u32, i: u32, c: Block, x: Desk) -> Moved
-    requires { ⌜ 1 ≤ nb ⌝ }
+    requires { ⌜ (nb ≤ 64) × (i < nb) ⌝ }
     ensures { λ r. ⌜ r ≡ lookOf (sized nb 0 0) p k i c x ⌝ }
 {
     match may_look(nb, p, k, i, c) {
@@ -112,7 +112,7 @@ fn look(nb: u32, p: u32, k: u32, i: u32, c: Block, x: Desk) -> Moved
             let seen = Desk {
                 stage: 1,
                 place,
-                turn: current_turn(nb, p, i),
+                turn: current_turn(nb, p, p % nb, i),
             };
             Moved {
                 answer: Answer::Seen(place as u32),
@@ -187,8 +187,8 @@ fn take(
     c: Block,
     x: Desk,
 ) -> Moved
-    requires { ⌜ (1 ≤ nb) × (c .claimed < 65535) × (c .finished < 65535) ⌝ }
-    requires { ⌜ (s ≡ fetchStep → (i ≡ x .turn % nb) × Stands ne i (x .place) (now entries)) ⌝ }
+    requires { ⌜ (1 ≤ nb) × (nb ≤ 64) × (c .claimed < 65535) × (c .finished < 65535) ⌝ }
+    requires { ⌜ ((at : ℕ) → s ≡ lookStep at → at < nb) × (s ≡ fetchStep → (i ≡ x .turn % nb) × Stands ne i (x .place) (now entries)) ⌝ }
     ensures { λ r. ⌜ r ≡ movedBy (sized nb ne 0) s p k (now (entries .entry)) c x (claimedAt (spotOf x)) ⌝ }
 {
     match s {

@@ -9,7 +9,7 @@ use line::Surveyed;
 use rules::check;
 ghost use mathlib.Core.Path.{_≡_};
 ghost use mathlib.Core.Bool.{not};
-ghost use Prim.Native.Nat.{_≤_};
+ghost use Prim.Native.Nat.{_≤_, _<_};
 ghost use Rattle.book.specs.Choice.{_≡ᵇ_};
 ghost use Rattle.book.specs.Sizes.{sized};
 ghost use Rattle.book.specs.Verdicts.{judge, lookable};
@@ -18,7 +18,7 @@ ghost use Rattle.engine.specs.Promises.{GivesSurvey};
 
 // The bit of block i, whose record is c: 1 where an idle desk's look at it would be SEEN.
 fn bit(nb: u32, p: u32, k: u32, i: u32, c: Block) -> u64
-    requires { ⌜ 1 ≤ nb ⌝ }
+    requires { ⌜ (nb ≤ 64) × (i < nb) ⌝ }
     ensures { λ r. ⌜ r ≡ judge (lookable (sized nb 0 0) p k i (not (c .claimed ≡ᵇ c .written))) 1 (λ w. 0) ⌝ }
 {
     match may_look(nb, p, k, i, c) {

@@ -21,7 +21,7 @@ use Rattle.byvalue.specs.GivenBack.{given, backOf}
 use Rattle.byvalue.specs.Ready.{Ready}
 use Rattle.byvalue.proofs.GivenBack.{back-lent, refused}
 use Rattle.byvalue.proofs.Ready.{blocks, record-at}
-use Rattle.byvalue.proofs.Standing.{next-block}
+use Rattle.ring.proofs.Backward.{next-block}
 
 abbrev pub at : ℕ → ℕ → Spot
 at k place = record { turn = k; place = place }

@@ -31,7 +31,7 @@ use Rattle.byvalue.specs.Entries.{Stands}
 use Rattle.byvalue.proofs.Lent.{lent-set}
 use Rattle.byvalue.proofs.GivenBack.{back-lent, refused}
 use Rattle.byvalue.proofs.Ready.{sizes, blocks, turns, block-below, record-at, stands}
-use Rattle.byvalue.proofs.Standing.{next-block}
+use Rattle.ring.proofs.Backward.{next-block}
 
 -- the round of a turn that may be started fits
 start-round : (z : Size) (k next : ℕ) (b : Bool) → startable z k b next ≡ takes → next / z .nb < 65536

@@ -2,7 +2,7 @@
 use mathlib.Core.Path.{_≡_, sym, ap, subst, _∙_}
 use mathlib.Core.Bool.{Bool, true, false, _&&_}
 use Prim.Native.Nat.{ℕ, _+_, _-_, _*_, _/_, _%_, _≤_, _<_}
-use native.Mathlib.Nat.{mod-lt, mod-le, mod-eq-of-lt, add-mul-mod-self-right, div-add-mod'}
+use native.Mathlib.Nat.{mod-add-mod, mod-lt, mod-le, mod-eq-of-lt, add-mul-mod-self-right, div-add-mod'}
 use native.Mathlib.Omega.{arith}
 use lib.Arith.{sub-sub-self}
 use lib.Dec.{T, leb, ltb, eqb, leb→le, nleb→lt, ltb→lt, lt→ltb}
@@ -43,6 +43,25 @@ unused-turn nb p i h = omega (arith, mod-le (p - i) nb)
 pub turn-block : (nb p i t : ℕ) → i < nb → t ≡ p - (p - i) % nb → leb i p ≡ true → t % nb ≡ i
 unfolding currentTurn
 turn-block nb p i t h e u = ap (λ (n : ℕ). n % nb) e ∙ current-block (record { nb = nb; ne = 0; t = 0 }) p i h (leb→le i p (rw u tt))
+
+-- the block after that of turn u is that of the next turn
+pub next-block : (nb u i j : ℕ) → i ≡ u % nb → j ≡ (i + 1) % nb → j ≡ (u + 1) % nb
+next-block nb u i j e f = f ∙ ap (λ (n : ℕ). (n + 1) % nb) e ∙ mod-add-mod u nb 1
+
+-- a turn is its block's current one exactly if it is recent
+pub current-recent : (z : Size) (p u : ℕ) → 0 < z .nb → eqb (currentTurn z p (blockOf z u)) u ≡ isRecent (z .nb) p u
+current-recent z p u pos =
+    cases (leb u p)
+    (λ s.
+    let k = leb→le u p s in
+    current-self z p u pos k
+    ∙ same-test (ltb p (u + z .nb)) (isRecent (z .nb) p u)
+    (λ e. let q = ltb→lt p (u + z .nb) e in and-in (leb u p) (ltb (p - u) (z .nb)) s (lt→ltb (p - u) (z .nb) (omega arith)))
+    (λ e. let q = ltb→lt (p - u) (z .nb) (and-second (leb u p) (ltb (p - u) (z .nb)) e) in lt→ltb p (u + z .nb) (omega arith)))
+    (λ s.
+    let k = nleb→lt u p s in
+    neq→eqb (currentTurn z p (blockOf z u)) u (λ e. omega (arith, current-low z p (blockOf z u)))
+    ∙ sym (ap (λ (b : Bool). b && ltb (p - u) (z .nb)) (not→false (leb u p) s)))
 
 -- ---- among the last NB turns up to P, as a test said
 

@@ -9,6 +9,23 @@ ghost use Prim.Native.Nat.{_+_, _-_, _%_, _≤_, _<_};
 ghost use Rattle.line.specs.Tests.{isRecent};
 ghost use Rattle.ring.specs.Ring.{Ring};
 
+// The block in which a turn stands.
+pub fn block_of(turn: u32, nb: u32) -> usize
+    requires { ⌜ (1 ≤ nb) × (nb ≤ 64) ⌝ }
+    ensures { λ r. ⌜ (r ≡ turn % nb) × (r < 64) ⌝ }
+{
+    (turn % nb) as usize
+}
+
+// The block in which the next turn stands: a test, where block_of divides.
+pub fn block_after(block: usize, nb: u32) -> usize
+    requires { ⌜ (block < nb) × (nb ≤ 64) ⌝ }
+    ensures { λ r. ⌜ (r ≡ (block + 1) % nb) × (r < 64) ⌝ }
+{
+    let next = block + 1;
+    if next < (nb as usize) { next } else { 0 }
+}
+
 // A turn is its block's current one if it is among the last NB turns up to P.
 pub fn is_current(nb: u32, p: u32, turn: u32) -> bool
     ensures { λ r. ⌜ r ≡ isRecent nb p turn ⌝ }

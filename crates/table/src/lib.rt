@@ -4,9 +4,10 @@
 ghost use mathlib.Core.Path.{_≡_};
 ghost use mathlib.Core.Logic.{_⊎_};
 ghost use Prim.Native.Nat.{_<_, _+_, _≤_};
-ghost use lib.ListN.{length, set, getD, replicate};
+ghost use lib.ListN.{length, set, getD};
 ghost use Rattle.line.specs.Line.{unused};
 ghost use Rattle.table.specs.Laid.{loaded, stored};
+use byvalue::no_table;
 use line::Block;
 
 // How many records are lent.
@@ -17,7 +18,7 @@ pub fn count(table: &[Block]) -> usize
 }
 
 // One record is read.
-pub fn record_at(table: &[Block], i: usize) -> Block
+fn record_at(table: &[Block], i: usize) -> Block
     requires { ⌜ i < length (now table) ⌝ }
     ensures { λ r. ⌜ r ≡ getD (now (table .entry)) i unused ⌝ }
 {
@@ -25,27 +26,15 @@ pub fn record_at(table: &[Block], i: usize) -> Block
 }
 
 // One record is replaced, and the others stay.
-pub fn replace(table: &mut [Block], i: usize, b: Block)
+fn replace(table: &mut [Block], i: usize, b: Block)
     requires { ⌜ i < length (now table) ⌝ }
     ensures { λ _. ⌜ now (table .exit) ≡ set (now (table .entry)) i b ⌝ }
 {
     table[i] = b;
 }
 
-// A table of 64 records of unused blocks.
-pub fn blank() -> [Block; 64]
-    ensures { λ r. ⌜ r ≡ replicate 64 unused ⌝ }
-{
-    [Block {
-        round: 0,
-        written: 0,
-        claimed: 0,
-        finished: 0,
-    }; 64]
-}
-
 // How many records a table of 64 has room for.
-pub fn at_most_64(n: usize) -> usize
+fn at_most_64(n: usize) -> usize
     ensures { λ r. ⌜ (r ≤ n) × (r ≤ 64) × ((r ≡ n) ⊎ (r ≡ 64)) ⌝ }
 {
     if n < 64 { n } else { 64 }
@@ -55,7 +44,7 @@ pub fn at_most_64(n: usize) -> usize
 pub fn load(table: &[Block]) -> [Block; 64]
     ensures { λ r. ⌜ r ≡ loaded (now (table .entry)) ⌝ }
 {
-    let mut t = blank();
+    let mut t = no_table();
     let n = at_most_64(table.len());
     let mut i = 0;
     while i < n {

@@ -53,9 +53,9 @@ use Rattle.table.proofs.Laying.{Laying, Nearer, nearer-wf, next, nearer
 use Rattle.table.proofs.Limit.{Least, Turning, turning, Most, calls-most}
 use Rattle.table.proofs.Reading.{Read, calls-record-at}
 use Rattle.table.proofs.Records.{RB, RT, Shared, record-vals, record-tells, bytes-each, record-makes, record-lawful, table-val, table-makes, table-lawful}
-use Rattle.table.proofs.blank as blank
-use Rattle.table.proofs.blank.Symbol as blank-def
-use Rattle.table.proofs.blank.Met as blank-thm
+use Rattle.byvalue.proofs.no_table as blank
+use Rattle.byvalue.proofs.no_table.Symbol as blank-def
+use Rattle.byvalue.proofs.no_table.Met as blank-thm
 use Rattle.table.proofs.at_most_64.Symbol as most-def
 use Rattle.table.proofs.at_most_64.Met as most-thm
 use Rattle.table.proofs.record_at.Symbol as read-def
@@ -69,7 +69,7 @@ abbrev stayed : Stays (f.ended .signature .params) (f.ended .kept)
 stayed = (stay-dropped (shrSliceOf (0 ∷ []) tt (plain (λ _. RB))) yes, tt)
 
 module _ {M : Type 1} (𝓤 : URA M) (H : Heap 𝓤) (A : Atoms 𝓤) (W : Given 𝓤 H A) (at-mem : Memory → SProp 𝓤) (run : Routine → Fun 𝓤) where
-  -- ---- the table of unused records that `blank` makes
+  -- ---- the table of unused records that `no_table` makes
   abbrev Blank : Contract 𝓤
   Blank = tripleOf 𝓤 H A blank.signature (blank.spec 𝓤 H A at-mem run)
 
@@ -220,6 +220,6 @@ load-spec 𝓤 H 𝓜 𝓖 𝓡 =
     let A = 𝓖 .A in let W = givenOf 𝓤 H 𝓜 𝓖 in let mem = 𝓜 .mem in let run = 𝓡 .run in
     proves 𝓤 H 𝓜 𝓡 code.env (tripleOf 𝓤 H A f.signature (f.spec 𝓤 H A mem run)) name code.function (code.unfolded 𝓤 H 𝓜 𝓡)
     (meets 𝓤 H A W mem run (tablesOf 𝓤 H 𝓜 (tables 𝓤 H 𝓜 𝓡 code.env))
-    (cites 𝓤 H 𝓜 𝓡 code.env (Blank 𝓤 H A W mem run) blank-def.name code.calls-table·blank (blank-thm.met 𝓤 H 𝓜 𝓖 𝓡))
+    (cites 𝓤 H 𝓜 𝓡 code.env (Blank 𝓤 H A W mem run) blank-def.name code.calls-byvalue·no-table (blank-thm.met 𝓤 H 𝓜 𝓖 𝓡))
     (cites 𝓤 H 𝓜 𝓡 code.env (Most 𝓤 H A W mem run) most-def.name code.calls-table·at-most-64 (most-thm.met 𝓤 H 𝓜 𝓖 𝓡))
     (cites 𝓤 H 𝓜 𝓡 code.env (Read 𝓤 H A W mem run) read-def.name code.calls-table·record-at (read-thm.met 𝓤 H 𝓜 𝓖 𝓡)))

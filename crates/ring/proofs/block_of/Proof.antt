@@ -3,8 +3,8 @@ use mathlib.Core.Path.{refl}
 use native.Mathlib.Nat.{mod-lt}
 use native.Mathlib.Omega.{arith}
 use borrow.Author.Needs.{needs}
-use Rattle.byvalue.proofs.ring.block_of.Statement.{statement}
-use Rattle.byvalue.proofs.ring.block_of.Tie as tie
+use Rattle.ring.proofs.block_of.Statement.{statement}
+use Rattle.ring.proofs.block_of.Tie as tie
 
 pub block-of-spec : {M : Type 1} → statement M
 block-of-spec =

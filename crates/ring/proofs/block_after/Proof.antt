@@ -4,8 +4,8 @@ use Prim.Native.Nat.{ℕ, _+_, _%_}
 use native.Mathlib.Nat.{mod-eq-of-lt, mod-self}
 use native.Mathlib.Omega.{arith}
 use borrow.Author.Needs.{needs}
-use Rattle.byvalue.proofs.ring.block_after.Statement.{statement}
-use Rattle.byvalue.proofs.ring.block_after.Tie as tie
+use Rattle.ring.proofs.block_after.Statement.{statement}
+use Rattle.ring.proofs.block_after.Tie as tie
 
 pub block-after-spec : {M : Type 1} → statement M
 block-after-spec =
