@@ -1,6 +1,6 @@
 -- When a claim is won, by comparisons: a turn is its block's current one if it is among the last NB turns up to P,
 -- and the block of a current turn is owned if the turn is at most K.
-use mathlib.Core.Path.{_≡_, refl, _∙_}
+use mathlib.Core.Path.{_≡_, refl, sym, _∙_}
 use mathlib.Core.Bool.{true, false, not, _&&_}
 use Prim.Native.Nat.{ℕ, _≤_, _<_}
 use native.Mathlib.Nat.{mod-le}
@@ -34,7 +34,7 @@ module _ (nb p k : ℕ) (c : Block) (s : Spot) (pos : 1 ≤ nb) where
     won-by : wins z p k c s ≡ (not (leb u k) && eqb (c .claimed) (s .place))
     unfolding wins isOwned
     won-by =
-        let h = recent→le nb p u e in
+        let h = recent→le nb p u true (sym e) refl in
         rw (current, eqb-true (currentTurn z p i) u current, le-leb i p (omega (arith, mod-le u nb))) refl
 
     pub is-owned : u ≤ k → false ≡ wins z p k c s

@@ -7,6 +7,7 @@ use borrow.Author.Needs.{needs}
 use lib.ListN.{getD}
 use Rattle.book.specs.Sizes.{sized}
 use Rattle.book.specs.declared.DeskStep.{DeskStep}
+use Rattle.book.specs.declared.DeskStep.the-variants.{Look as look}
 use Rattle.book.specs.Steps.{idle}
 use Rattle.book.specs.declared.Verdict.the-variants.{Takes as takes}
 use Rattle.book.specs.Verdicts.{admitted}
@@ -81,6 +82,9 @@ module _ (c : tie.After-block-read) where
   below : i < h start .nb
   below = let o = start in block-in (h o) (t o) (es o) (o .pre) (d o) (s o) (desk asked .if1 .left) may i (c .block-read .ensures)
 
+  looks-in : (at : ℕ) → s start ≡ look at → at < h start .nb
+  looks-in at e = let q : i ≡ at = rw e at (c .block-read .ensures) in omega (arith, below)
+
   few : i < 64
   few = let b = below in omega (arith, blocks (h start) (t start) (es start) (start .pre))
 
@@ -99,8 +103,8 @@ desk-step-spec =
     few
     (λ c. search needs)
     (λ c κs. let b = record-of c in let o = start b in let q = record-few (h o) (t o) (es o) (o .pre) (i b) (below b) in (
-      (blocks (h o) (t o) (es o) (o .pre) .0, omega arith, omega arith),
-      λ f. fetch-in (h o) (t o) (es o) (o .pre) (d o) (s o) (desk (asked b) .if1 .left) (may b) (i b) (b .block-read .ensures) f,
+      (blocks (h o) (t o) (es o) (o .pre) .0, blocks (h o) (t o) (es o) (o .pre) .1, omega arith, omega arith),
+      (looks-in b, λ f. fetch-in (h o) (t o) (es o) (o .pre) (d o) (s o) (desk (asked b) .if1 .left) (may b) (i b) (b .block-read .ensures) f),
     ))
     (λ c. search needs)
     (λ c. within (desk (asked (record-of (moved c .before)))))
