@@ -1,0 +1,4 @@
+pub mod Pieces
+pub mod Items
+pub mod Meaning
+pub mod Parts
