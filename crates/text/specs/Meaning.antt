@@ -52,7 +52,7 @@ section (l ∷ ls) =
 
 -- the longest text, and the room for its bytes
 abbrev pub textLimit : ℕ
-textLimit = 1048576
+textLimit = 262144
 
 abbrev pub roomBytes : ℕ
 roomBytes = 262144

@@ -194,8 +194,8 @@ fn with_number(r: Args, n: u64) -> Args
 
 // The numbers from `at` on.
 pub fn args_from(line: &[u8], at: usize) -> Args
-    requires { ⌜ (at ≤ length (now line)) × (length (now line) ≤ 1048576) ⌝ }
-    ensures { λ r. ⌜ (r ≡ argsOf (numbers (drop at (now (line .entry))))) × (r .count ≤ 1048576) ⌝ }
+    requires { ⌜ (at ≤ length (now line)) × (length (now line) ≤ 262144) ⌝ }
+    ensures { λ r. ⌜ (r ≡ argsOf (numbers (drop at (now (line .entry))))) × (r .count ≤ 262144) ⌝ }
 {
     let mut r = Args {
         count: 0,
@@ -272,7 +272,7 @@ fn bytes_item(r: Args) -> Item
 
 // The step that stands behind `times` and its number.
 fn times_item(line: &[u8], at: usize) -> Item
-    requires { ⌜ (at ≤ length (now line)) × (length (now line) ≤ 1048576) ⌝ }
+    requires { ⌜ (at ≤ length (now line)) × (length (now line) ≤ 262144) ⌝ }
     ensures { λ i. ⌜ i ≡ timesItem (drop at (now (line .entry))) ⌝ }
 {
     let w = word_at(line, at);
@@ -318,7 +318,7 @@ fn name_item(line: &[u8]) -> Item
 
 // The item of a line whose first word, of form f, ends at `to`.
 fn item_by(line: &[u8], to: usize, f: Form) -> Item
-    requires { ⌜ (to ≤ length (now line)) × (length (now line) ≤ 1048576) × (drop to (now line) ≡ behind (now line)) ⌝ }
+    requires { ⌜ (to ≤ length (now line)) × (length (now line) ≤ 262144) × (drop to (now line) ≡ behind (now line)) ⌝ }
     ensures { λ i. ⌜ i ≡ itemBy (now (line .entry)) f (f .kind) ⌝ }
 {
     let kind = f.kind;
@@ -334,7 +334,7 @@ fn item_by(line: &[u8], to: usize, f: Form) -> Item
 
 // What a line asks for.
 pub fn item_of(line: &[u8]) -> Item
-    requires { ⌜ length (now line) ≤ 1048576 ⌝ }
+    requires { ⌜ length (now line) ≤ 262144 ⌝ }
     ensures { λ i. ⌜ i ≡ item (now (line .entry)) ⌝ }
 {
     let w = word_at(line, 0);

@@ -25,7 +25,7 @@ pub enum Answer {
 pub fn bytes_of(text: &[u8], out: &mut [u8; ROOM]) -> Answer
     ensures { λ r. ⌜ (r, now (out .exit)) ≡ outcome (meaning (now (text .entry))) (now (out .entry)) ⌝ }
 {
-    if 1048576 < text.len() {
+    if 262144 < text.len() {
         return Answer::Bad(0, Wanted::Text);
     }
     let mut room = [0u8; ROOM];

@@ -21,7 +21,7 @@ ghost use Rattle.text.specs.Parts.{Filled};
 
 // How many bytes the lines from `from` on have, up to the next name.
 fn section_from(text: &[u8], from: usize) -> usize
-    requires { ⌜ length (now text) ≤ 1048576 ⌝ }
+    requires { ⌜ length (now text) ≤ 262144 ⌝ }
     ensures { λ r. ⌜ r ≡ section (lines (drop from (now (text .entry)))) ⌝ }
 {
     let mut at = from;
@@ -41,7 +41,7 @@ fn section_from(text: &[u8], from: usize) -> usize
 
 // The length that a name says: of what stands from `from` on, and 0 for an item that is no name.
 fn length_said(text: &[u8], from: usize, i: Item) -> usize
-    requires { ⌜ length (now text) ≤ 1048576 ⌝ }
+    requires { ⌜ length (now text) ≤ 262144 ⌝ }
     ensures { λ r. ⌜ (isNamed i ≡ true → r ≡ section (lines (drop from (now (text .entry))))) ⌝ }
 {
     if is_named(i) {
@@ -52,7 +52,7 @@ fn length_said(text: &[u8], from: usize, i: Item) -> usize
 
 // The bytes of all lines, or the first that is refused.
 pub fn fill(text: &[u8], out: &mut [u8]) -> Answer
-    requires { ⌜ (length (now text) ≤ 1048576) × (length (now out) ≡ 262144) ⌝ }
+    requires { ⌜ (length (now text) ≤ 262144) × (length (now out) ≡ 262144) ⌝ }
     ensures { λ r. ⌜ Filled (going 1 [] (lines (now (text .entry)))) (now (out .entry)) r (now (out .exit)) ⌝ }
 {
     let mut at = 0;

@@ -126,7 +126,7 @@ fn bare_length(line: &[u8]) -> usize
 
 // The line from `at` on: where it ends, and where the next one starts.
 pub fn line_at(text: &[u8], at: usize) -> Part
-    requires { ⌜ (at < length (now text)) × (length (now text) ≤ 1048576) ⌝ }
+    requires { ⌜ (at < length (now text)) × (length (now text) ≤ 262144) ⌝ }
     ensures { λ r. ⌜ LineAt (now (text .entry)) at r ⌝ }
 {
     let end = at + span_of(&text[at..], Stop::InLine);

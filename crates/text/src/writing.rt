@@ -113,7 +113,7 @@ fn write_name(line: &[u8], k: usize, out: &mut [u8], at: usize) -> usize
 
 // How many bytes an item has.
 pub fn size_of(line: &[u8], i: Item) -> usize
-    requires { ⌜ length (now line) ≤ 1048576 ⌝ }
+    requires { ⌜ length (now line) ≤ 262144 ⌝ }
     ensures { λ r. ⌜ (r ≡ length (said (now (line .entry)) 0 i)) × (r ≤ 137438953472) ⌝ }
 {
     match i {

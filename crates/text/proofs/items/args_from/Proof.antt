@@ -16,7 +16,7 @@ use Rattle.text.proofs.pieces.number_of.Reads as number-of-reads
 use Rattle.text.proofs.pieces.word_at.Reads as word-at-reads
 
 abbrev Inv-loop : tie.InvT-loop
-Inv-loop line at r₀ i₀ r i = (i ≤ length line) × (length line ≤ 1048576) × (r .count ≤ i) × Gathered line at i r
+Inv-loop line at r₀ i₀ r i = (i ≤ length line) × (length line ≤ 262144) × (r .count ≤ i) × Gathered line at i r
 
 abbrev μ-loop : tie.MeasureT-loop
 μ-loop line at r₀ i₀ r i = length line - i

@@ -21,7 +21,7 @@ use Rattle.text.proofs.writing.size_of.Reads as size-of-reads
 use Rattle.text.proofs.writing.write_item.Reads as write-item-reads
 
 abbrev Inv-loop : tie.InvT-loop
-Inv-loop text out₀ at₀ number₀ end₀ out at number end = (length text ≤ 1048576) × (length out₀ ≡ 262144) × (length out ≡ length out₀) × (number ≤ at + 1) × (end ≤ 262144) × Going text out₀ at number end out
+Inv-loop text out₀ at₀ number₀ end₀ out at number end = (length text ≤ 262144) × (length out₀ ≡ 262144) × (length out ≡ length out₀) × (number ≤ at + 1) × (end ≤ 262144) × Going text out₀ at number end out
 
 abbrev μ-loop : tie.MeasureT-loop
 μ-loop text out₀ at₀ number₀ end₀ out at number end = length text - at

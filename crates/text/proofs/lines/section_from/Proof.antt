@@ -20,7 +20,7 @@ use Rattle.text.proofs.pieces.line_at.Reads as line-at-reads
 use Rattle.text.proofs.writing.size_of.Reads as size-of-reads
 
 abbrev Inv-loop : tie.InvT-loop
-Inv-loop text from at₀ total₀ at total = (length text ≤ 1048576) × (total ≤ 137438953472 * at) × (total + section (lines (drop at text)) ≡ section (lines (drop from text)))
+Inv-loop text from at₀ total₀ at total = (length text ≤ 262144) × (total ≤ 137438953472 * at) × (total + section (lines (drop at text)) ≡ section (lines (drop from text)))
 
 abbrev μ-loop : tie.MeasureT-loop
 μ-loop text from at₀ total₀ at total = length text - at
