@@ -11,6 +11,7 @@ use engine::opening::open;
 use engine::step::step;
 use libc::STDERR_FILENO;
 use libc::STDOUT_FILENO;
+use schedule::Message;
 use words::number;
 use words::value;
 ghost use Prim.Native.Nat.{_≤_, _<_};
@@ -18,6 +19,12 @@ ghost use Prim.Native.Nat.{_≤_, _<_};
 const STEPS: u32 = 1000000;
 
 const NE: u16 = 64;
+
+// The entries of the largest line.
+const ENTRIES: usize = 4096;
+
+// Labels are below this.
+const LABELS: u32 = 1000000;
 
 const DESKS: u16 = 16;
 
@@ -38,13 +45,6 @@ const FETCH: u8 = 32;
 const FINISH: u8 = 48;
 
 const LOOK: u8 = 64;
-
-// A step as it is asked for.
-struct Asked {
-    code: u8,
-    a: u32,
-    b: u32,
-}
 
 // What a loop adds up.
 struct Total {
@@ -72,10 +72,10 @@ fn other(i: u32) -> u8
 }
 
 // A desk's step: its code, and the block that a look names.
-fn by_desk(code: u8, d: u8, block: u32) -> Asked
+fn by_desk(code: u8, d: u8, block: u32) -> Message
     requires { ⌜ (code ≤ 64) × (d < 16) ⌝ }
 {
-    Asked {
+    Message {
         code: code + d,
         a: block,
         b: 0,
@@ -84,7 +84,7 @@ fn by_desk(code: u8, d: u8, block: u32) -> Asked
 
 // Step i of a cycle: the owner puts five labels and gets three, and the two desks make a round each. A get
 // stands between look and claim, so that some claims are lost to the owner.
-fn in_cycle(i: u32, nb: u32) -> Asked
+fn in_cycle(i: u32, nb: u32) -> Message
     requires { ⌜ 1 ≤ nb ⌝ }
 {
     match i % 16 {
@@ -96,28 +96,28 @@ fn in_cycle(i: u32, nb: u32) -> Asked
         10 => by_desk(FETCH, other(i), 0),
         13 => by_desk(FINISH, desk(i), 0),
         14 => by_desk(FINISH, other(i), 0),
-        4 | 8 | 12 => Asked {
+        4 | 8 | 12 => Message {
             code: GET,
             a: 0,
             b: 0,
         },
-        _ => Asked {
+        _ => Message {
             code: PUT,
-            a: i % 1000000,
+            a: i % LABELS,
             b: 0,
         },
     }
 }
 
 // Step i of the schedule. The first is an order that fills three quarters of the line.
-fn ask(i: u32, nb: u32) -> Asked
+fn ask(i: u32, nb: u32) -> Message
     requires { ⌜ (1 ≤ nb) × (nb ≤ 64) ⌝ }
 {
     if i == 0 {
-        return Asked {
+        return Message {
             code: ORDER,
             a: 0,
-            b: nb * 64 * 3 / 4 - 1,
+            b: nb * (NE as u32) * 3 / 4 - 1,
         };
     }
     in_cycle(i, nb)
@@ -218,8 +218,8 @@ fn say_times(nb: u16, full: u64, empty: u64, sum: u64) {
 fn measure(nb: u16)
     requires { ⌜ (1 ≤ nb) × (nb ≤ 64) ⌝ }
 {
-    let mut entries = [0u32; 4096];
-    let m = (nb as usize) * 64;
+    let mut entries = [0u32; ENTRIES];
+    let m = (nb as usize) * (NE as usize);
     let start = clock();
     let total = run(nb, &mut entries[..m]);
     let middle = clock();

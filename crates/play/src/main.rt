@@ -3,7 +3,7 @@ use libc::STDIN_FILENO;
 use libc::STDOUT_FILENO;
 
 // Room for one byte more than the longest schedule has, so that a longer one is seen to be.
-const ROOM: usize = 64809;
+const ROOM: usize = schedule::LIMIT + 1;
 
 fn main() {
     let mut input = [0u8; ROOM];

@@ -9,11 +9,13 @@ use Rattle.line.specs.Line as L
 use Rattle.line.specs.Rules.{ofBlocks, inOrder}
 use Rattle.line.specs.Check as C
 use Rattle.line.specs.Calls as Calls
-use Rattle.player.specs.Schedule as S
+use Rattle.schedule.specs.Bytes as B
+use Rattle.player.specs.Spoken as S
+use Rattle.printing.specs.Text as T
 use Rattle.player.specs.Printed as P
 use Rattle.player.specs.Demands.{PlayedOnly}
 use Rattle.player.proofs.Demands.{played-only}
-use Rattle.player.specs.Cases.{ListingCases, HeaderCases, UnfitCases, CutCases, SizeCases, NumberCases, WordCases, DecimalCases, LimitCases}
+use Rattle.player.specs.Cases.{ListingCases, HeaderCases, UnfitCases, CutCases, SizeCases, NumberCases, WordCases, LimitCases}
 
 -- ---- what is computed with: to unfold one of these is to unfold all that it names
 
@@ -34,11 +36,11 @@ unfolding shared desks owner C.isCurrent C.deskHolds C.noClash C.isZeros C.holds
 check = tt
 
 schedule : Unit {0}
-unfolding check Calls.step Calls.answers S.isHeader S.stepsFrom S.stepsOf S.numbered S.cutShort S.run S.opening S.played
+unfolding check Calls.step Calls.answers B.isHeader B.stepsFrom B.stepsOf B.bytesOfAll S.numbered S.cutShort S.run S.playedWith S.played
 schedule = tt
 
 print : Unit {0}
-unfolding schedule P.digits P.decimal P.lineText P.printed
+unfolding schedule T.digits T.decimal T.lineText P.printed
 print = tt
 
 -- ---- the cases
@@ -71,10 +73,6 @@ pub word-cases : WordCases
 unfolding print WordCases
 word-cases = refl
 
-pub decimal-cases : DecimalCases
-unfolding print DecimalCases
-decimal-cases = refl
-
 pub limit-cases : LimitCases
-unfolding P.digits P.decimal P.lineText P.printed PlayedOnly LimitCases
+unfolding T.digits T.decimal T.lineText P.printed PlayedOnly LimitCases
 limit-cases = (λ bs e. ap P.printed (played-only bs .0 (rw e tt)), λ bs e h. ap P.printed (played-only bs .1 (rw e tt) (rw h tt)))

@@ -2,7 +2,7 @@
 use mathlib.Core.Path.{_≡_, refl, sym, ap, _∙_}
 use mathlib.Core.Bool.{Bool, true, false, not, _&&_}
 use mathlib.Core.List.{List, [], _∷_, _++_}
-use Prim.Native.Nat.{ℕ, zero, suc, _+_}
+use Prim.Native.Nat.{ℕ, suc}
 use native.Mathlib.Omega.{arith}
 use lib.Dec.{T}
 use lib.ListN.{length, length-append}
@@ -16,13 +16,15 @@ use Rattle.line.specs.Line.{Line, opened}
 use Rattle.line.specs.Calls.{step, answers}
 use Rattle.line.specs.Demands.{Demand2}
 use Rattle.line.proofs.Runs.{demand2}
-use Rattle.player.specs.Schedule.{headerBytes, stepBytes, isLong, isHeader, sizeIn, stepsFrom, wholeSteps, stepsOf, isCut, Spoken, cutAt, numbered, cutShort, run, opening, played}
+use Rattle.schedule.specs.Bytes.{headerBytes, isLong, isHeader, sizeIn, wholeSteps, stepsOf, isCut}
+use Rattle.schedule.proofs.Bytes.{steps-length}
+use Rattle.player.specs.Spoken.{Spoken, cutAt, numbered, cutShort, run, playedWith, played}
 use Rattle.player.specs.Demands.{opens, PlayedByBook, PlayedOnly, LineForEach}
 
 module _ (bs : List ℕ) where
   -- a schedule that opens is run
   opens-runs : T (opens bs) → (played bs ≡ run bs (opened (sizeIn bs))) × T (fits (sizeIn bs))
-  unfolding opens played opening
+  unfolding opens played playedWith
   opens-runs t =
       let a = not (isLong bs) in let b = isHeader bs in let c = fits (sizeIn bs) in
       let short : T a = and-first a b (and-first (a && b) c t) in
@@ -35,7 +37,7 @@ unfolding PlayedByBook run Demand2
 played-by-book bs t = let o = opens-runs bs t in o .0 ∙ ap (λ (l : List Answer). numbered 1 l ++ cutShort bs) (demand2 (sizeIn bs) (stepsOf bs) (o .1))
 
 pub played-only : PlayedOnly
-unfolding PlayedOnly played opening
+unfolding PlayedOnly played playedWith
 played-only bs = (
   λ l. rw (T→true (isLong bs) l) refl,
   λ l h. rw (not→false (isLong bs) l, not→false (isHeader bs) h) refl,
@@ -53,11 +55,6 @@ answers-length : (l : Line) (ss : List Step) → length (answers l ss) ≡ lengt
 unfolding answers
 answers-length l [] = refl
 answers-length l (s ∷ ss) = ap suc (answers-length ((step l s) .line) ss)
-
-steps-length : (bs : List ℕ) (n i : ℕ) → length (stepsFrom bs n i) ≡ n
-unfolding stepsFrom
-steps-length bs zero i = refl
-steps-length bs (suc n) i = ap suc (steps-length bs n (i + stepBytes))
 
 cut-length : (b : Bool) (s : Spoken) → length (if b then s ∷ [] else []) ≡ (if b then 1 else 0)
 cut-length true s = refl

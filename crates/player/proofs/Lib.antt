@@ -1,11 +1,8 @@
-pub mod Stores
-pub mod Decimals
-pub mod Lines
 pub mod Rest
 pub mod Opened
 pub mod Played
+pub mod Only
 pub mod Whole
 pub mod Cases
 pub mod Demands
 pub mod Unique
-pub mod Digits

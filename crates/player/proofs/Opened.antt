@@ -32,9 +32,10 @@ use Rattle.engine.specs.Opens.{begun, began, Opens}
 use Rattle.engine.specs.Promises.{Steps}
 use Rattle.rules.proofs.Lent.{lent-length}
 use Rattle.rules.proofs.Records.{product}
-use Rattle.player.specs.Parts.{Writes, Ready, entriesLent, Playable}
+use Rattle.printing.specs.Writes.{Writes}
+use Rattle.player.specs.Parts.{storeEntries, entriesLent, Ready, Playable}
 use Rattle.player.specs.Printed.{printed}
-use Rattle.player.specs.Schedule.{only, run, opening}
+use Rattle.player.specs.Spoken.{only, run, playedWith}
 
 -- n records put back in front of a table are those that it lends
 lent-back : (t u : List Block) (n : ℕ) → n ≤ 64 → length u ≡ n → lentTable (putBack t n u) n ≡ u
@@ -59,15 +60,15 @@ module _ (z : Size) (h : Head) (t : List Block) (n : ℕ) (es : List ℕ) (w : L
 
 -- ---- opening over the store
 
-pub entries-few : (nb ne : ℕ) → entriesLent nb ne ≤ 4096
-entries-few nb ne = by-test (λ (k : ℕ). k ≤ 4096) (ltb (nb * ne) 4096) (λ t. let h = ltb→lt (nb * ne) 4096 t in omega arith) (λ t. omega arith)
+pub entries-few : (nb ne : ℕ) → entriesLent nb ne ≤ storeEntries
+entries-few nb ne = by-test (λ (k : ℕ). k ≤ storeEntries) (ltb (nb * ne) storeEntries) (λ t. let h = ltb→lt (nb * ne) storeEntries t in omega arith) (λ t. omega arith)
 
 module _ (z : Size) where
   -- numbers within their limits ask for no more entries than the store has
   lent-all : Valid z → entriesLent (z .nb) (z .ne) ≡ z .nb * z .ne
   lent-all v =
-      by-test (λ (k : ℕ). k ≡ z .nb * z .ne) (ltb (z .nb * z .ne) 4096) (λ t. refl)
-      (λ t. let low = nltb→le (z .nb * z .ne) 4096 t in let high = product (z .nb) (z .ne) 64 64 (v .nb-most) (v .ne-most) in omega arith)
+      by-test (λ (k : ℕ). k ≡ z .nb * z .ne) (ltb (z .nb * z .ne) storeEntries) (λ t. refl)
+      (λ t. let low = nltb→le (z .nb * z .ne) storeEntries t in let high = product (z .nb) (z .ne) 64 64 (v .nb-most) (v .ne-most) in omega arith)
 
   module _ (h : Head) (t : List Block) (es : List ℕ) (long : length t ≡ 64) (lent : length es ≡ entriesLent (z .nb) (z .ne)) where
     -- so the lent lengths fit exactly if the numbers do
@@ -117,11 +118,11 @@ unfolding opened
 opened-playable bs o store z l p f e =
     subst⁻¹ (λ (u : Line). Playable bs o u (z .nb)) e (record { header = p .header; few = p .few; room = p .room; sound = opened-lawful z f; blocks = refl })
 
-pub opening-runs : (bs : List ℕ) (z : Size) (l : Line) (r : ℕ) (o after : List ℕ) → T (fits z) → l ≡ opened z → Writes 0 (printed (run bs l)) o r after
-    → Writes 0 (printed (opening bs z)) o r after
-unfolding opening
-opening-runs bs z l r o after f e w = rw (T→true (fits z) f, ← e) w
+pub opened-runs : (bs : List ℕ) (z : Size) (l : Line) (r : ℕ) (o after : List ℕ) → T (fits z) → l ≡ opened z → Writes 0 (printed (run bs l)) o r after
+    → Writes 0 (printed (playedWith bs z)) o r after
+unfolding playedWith
+opened-runs bs z l r o after f e w = rw (T→true (fits z) f, ← e) w
 
-pub opening-unfit : (bs : List ℕ) (z : Size) (r : ℕ) (o after : List ℕ) → fits z ≡ false → Writes 0 (printed (only "UNFIT")) o r after → Writes 0 (printed (opening bs z)) o r after
-unfolding opening
-opening-unfit bs z r o after e w = rw e w
+pub unfit-said : (bs : List ℕ) (z : Size) (r : ℕ) (o after : List ℕ) → fits z ≡ false → Writes 0 (printed (only "UNFIT")) o r after → Writes 0 (printed (playedWith bs z)) o r after
+unfolding playedWith
+unfit-said bs z r o after e w = rw e w

@@ -12,10 +12,12 @@ use Rattle.line.specs.Agrees.{Lawful}
 use Rattle.engine.specs.declared.Outcome.{Outcome as OutcomeByValue}
 use Rattle.rules.specs.Lent.{lineOf}
 use Rattle.engine.specs.Promises.{Steps}
-use Rattle.player.specs.Schedule.{stepAt, wholeSteps, spoken}
+use Rattle.schedule.specs.Bytes.{stepAt, wholeSteps}
+use Rattle.schedule.proofs.Bytes.{placeOf}
+use Rattle.printing.specs.Writes.{Writes}
+use Rattle.player.specs.Spoken.{spoken}
 use Rattle.player.specs.Printed.{line}
-use Rattle.player.specs.Parts.{Writes}
-use Rattle.player.proofs.Rest.{placeOf, Continues, one-played}
+use Rattle.player.proofs.Rest.{Continues, one-played}
 use Rattle.player.proofs.Opened.{step-sound, step-line}
 
 module _ (z : Size) (h : Head) (t : List Block) (n : ℕ) (es : List ℕ) (sound : Lawful z (lineOf h t n es)) (blocks : n ≡ z .nb)

@@ -3,59 +3,50 @@
 use mathlib.Core.Path.{_≡_, refl, sym, subst, _∙_}
 use mathlib.Core.Bool.{Bool, true, false}
 use mathlib.Core.List.{List, [], _∷_, _++_, append-nil}
-use Prim.Native.Nat.{ℕ, suc, _+_, _-_, _*_, _%_, _≤_, _<_}
-use native.Mathlib.Nat.{sub-zero}
+use Prim.Native.Nat.{ℕ, suc, _+_, _*_, _≤_, _<_}
 use native.Mathlib.Numerals.{add-one}
 use native.Mathlib.Omega.{arith}
-use borrow.Author.Tests.{eqb-false, not-true}
 use lib.ListN.{length}
-use Rattle.book.specs.Choice.{_≡ᵇ_}
 use Rattle.line.specs.Line.{Line, Outcome}
 use Rattle.line.specs.Calls.{step, answers}
-use Rattle.player.specs.Schedule.{limit, headerBytes, stepBytes, stepAt, stepsFrom, wholeSteps, stepsOf, isCut, Spoken, spoken, numbered, cutAt, cutShort, run}
+use Rattle.schedule.specs.Bytes.{limit, stepAt, wholeSteps, isCut}
+use Rattle.schedule.proofs.Bytes.{placeOf, stepsBehind, behind-none, behind-next, behind-all, steps-few, cut-few}
+use Rattle.printing.specs.Text.{numbersBelow}
+use Rattle.printing.specs.Writes.{Writes, lineMost}
+use Rattle.printing.proofs.Stores.{writes-more, writes-none}
+use Rattle.player.specs.Spoken.{Spoken, spoken, numbered, cutAt, cutShort, run}
 use Rattle.player.specs.Printed.{line, printed}
-use Rattle.player.specs.Parts.{textBytes, Writes}
-use Rattle.player.proofs.Stores.{writes-more, writes-none}
+use Rattle.player.specs.Parts.{textBytes}
 
 module _ (bs : List ℕ) where
-  -- where step i + 1 stands
-  abbrev pub placeOf : ℕ → ℕ
-  placeOf i = headerBytes + stepBytes * i
-
   pub restOf : ℕ → Line → List Spoken
-  restOf i l = numbered (suc i) (answers l (stepsFrom bs (wholeSteps bs - i) (placeOf i))) ++ cutShort bs
+  restOf i l = numbered (suc i) (answers l (stepsBehind bs i)) ++ cutShort bs
 
   pub rest-all : (l : Line) → restOf 0 l ≡ run bs l
-  unfolding restOf run stepsOf
-  rest-all l = rw (sub-zero (wholeSteps bs)) refl
+  unfolding restOf run
+  rest-all l = rw (behind-none bs) refl
 
-  pub rest-next : (i : ℕ) (l : Line) → i < wholeSteps bs → let o = step l (stepAt bs (placeOf i)) in restOf i l ≡ spoken (suc i) (o .answer) ∷ restOf (i + 1) (o .line)
-  unfolding restOf numbered answers stepsFrom
-  rest-next i l h =
-      let e : wholeSteps bs - i ≡ suc (wholeSteps bs - (i + 1)) = omega arith in
-      let p : placeOf i + stepBytes ≡ placeOf (i + 1) = omega arith in
-      rw (e, p, add-one i) refl
+  pub rest-next : (i : ℕ) (l : Line) → i < wholeSteps bs → let o = step l (stepAt bs (placeOf bs i)) in restOf i l ≡ spoken (suc i) (o .answer) ∷ restOf (i + 1) (o .line)
+  unfolding restOf numbered answers
+  rest-next i l h = rw (behind-next bs i h, add-one i) refl
 
   pub rest-last : (i : ℕ) (l : Line) → i ≡ wholeSteps bs → restOf i l ≡ cutShort bs
-  unfolding restOf numbered answers stepsFrom
-  rest-last i l e = let z : wholeSteps bs - i ≡ 0 = omega arith in rw z refl
+  unfolding restOf numbered answers
+  rest-last i l e = rw (behind-all bs i e) refl
 
   -- ---- how many steps, and the room that they have
 
-  module _ (short : length bs ≤ limit) (i at : ℕ) (most : at ≤ 25 * i) where
+  module _ (short : length bs ≤ limit) (i at : ℕ) (most : at ≤ lineMost * i) where
     -- 7,200 steps at most: four digits
-    pub number-few : (n : ℕ) → i ≤ wholeSteps bs → n ≡ suc i → n < 10000
-    number-few n h e = omega arith
+    pub number-few : (n : ℕ) → i ≤ wholeSteps bs → n ≡ suc i → n < numbersBelow
+    number-few n h e = omega (arith, steps-few bs short)
 
-    pub step-room : i < wholeSteps bs → at + 25 ≤ textBytes
-    step-room h = omega arith
+    pub step-room : i < wholeSteps bs → at + lineMost ≤ textBytes
+    step-room h = omega (arith, steps-few bs short)
 
     -- where a step is cut short, there are fewer whole ones than a schedule can have
-    pub cut-room : (b : Bool) → b ≡ isCut bs → b ≡ true → i ≡ wholeSteps bs → at + 25 ≤ textBytes
-    cut-room b c t e =
-        let over = (length bs - headerBytes) % stepBytes in
-        let some : over ≡ 0 → ⊥ = eqb-false over 0 (not-true (over ≡ᵇ 0) (sym c ∙ t)) in
-        omega arith
+    pub cut-room : (b : Bool) → b ≡ isCut bs → b ≡ true → i ≡ wholeSteps bs → at + lineMost ≤ textBytes
+    cut-room b c t e = omega (arith, cut-few bs short b c t)
 
   -- ---- what is written, and what is left
 
@@ -72,7 +63,7 @@ module _ (bs : List ℕ) where
     unfolding Continues
     writes-rest ss r after e w = g r after (subst (λ (l : List Spoken). Writes at (printed l) o r after) (sym e) w)
 
-    pub one-played : (q : Outcome) (n p : ℕ) (o₁ : List ℕ) → i < wholeSteps bs → q ≡ step l (stepAt bs (placeOf i)) → n ≡ suc i → Writes at (line (spoken n (q .answer))) o p o₁
+    pub one-played : (q : Outcome) (n p : ℕ) (o₁ : List ℕ) → i < wholeSteps bs → q ≡ step l (stepAt bs (placeOf bs i)) → n ≡ suc i → Writes at (line (spoken n (q .answer))) o p o₁
         → Continues xs o₀ (i + 1) (q .line) p o₁
     unfolding Continues printed
     one-played q n p o₁ h e k w r after v =

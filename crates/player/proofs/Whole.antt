@@ -1,22 +1,16 @@
 -- The whole schedule: which of the tests decides, and the text at the front of what is handed back.
-use mathlib.Core.Path.{_≡_, refl, sym, ap, _∙_}
+use mathlib.Core.Path.{_≡_, refl, sym}
 use mathlib.Core.Bool.{Bool, true, false}
 use mathlib.Core.List.{List}
-use Prim.Native.Nat.{ℕ, _≤_}
-use native.Mathlib.Omega.{arith}
-use lib.Dec.{T, leb, leb→le}
-use lib.ListN.{length, take, drop, length-append}
+use Prim.Native.Nat.{ℕ}
+use lib.ListN.{length, take, drop}
 use lib.Seq.{take-at}
-use Rattle.book.proofs.Choice.{and-first}
-use Rattle.player.specs.Schedule.{headerBytes, isLong, isHeader, sizeIn, Spoken, only, opening, played}
+use Rattle.schedule.specs.Bytes.{isLong, isHeader, sizeIn}
+use Rattle.printing.specs.Writes.{Writes}
+use Rattle.printing.proofs.Stores.{front}
+use Rattle.player.specs.Spoken.{Spoken, only, playedWith, played}
 use Rattle.player.specs.Printed.{printed, text}
 use Rattle.player.specs.Promises.{Plays}
-use Rattle.player.specs.Parts.{Writes}
-use Rattle.player.proofs.Stores.{front}
-
-pub header-long : (bs : List ℕ) (h : Bool) → h ≡ isHeader bs → h ≡ true → headerBytes ≤ length bs
-unfolding isHeader
-header-long bs h is t = let all : T (isHeader bs) = rw (sym is ∙ t) tt in leb→le headerBytes (length bs) (and-first (leb headerBytes (length bs)) _ all)
 
 -- what is written from place 0 on stands at the front
 module _ (bs o : List ℕ) (r : ℕ) (after : List ℕ) where
@@ -29,9 +23,9 @@ module _ (bs o : List ℕ) (r : ℕ) (after : List ℕ) where
     long-plays t w = front-plays (only "LONG") (rw (← is-long, t) refl) w
 
     module _ (h : Bool) (is-header : h ≡ isHeader bs) (short : l ≡ false) where
-      pub opening-plays : h ≡ true → Writes 0 (printed (opening bs (sizeIn bs))) o r after → Plays bs o r after
+      pub headed-plays : h ≡ true → Writes 0 (printed (playedWith bs (sizeIn bs))) o r after → Plays bs o r after
       unfolding played
-      opening-plays t w = front-plays (opening bs (sizeIn bs)) (rw (← is-long, short, ← is-header, t) refl) w
+      headed-plays t w = front-plays (playedWith bs (sizeIn bs)) (rw (← is-long, short, ← is-header, t) refl) w
 
       pub header-plays : h ≡ false → Writes 0 (printed (only "HEADER")) o r after → Plays bs o r after
       unfolding played
@@ -40,8 +34,3 @@ module _ (bs o : List ℕ) (r : ℕ) (after : List ℕ) where
   -- for a caller, who prints the front
   pub played-front : Plays bs o r after → take r after ≡ text bs
   played-front p = rw (p .front) (take-at (text bs) (drop (length (text bs)) o) r (sym (p .count)))
-
-  pub played-room : Plays bs o r after → r ≤ length after
-  played-room p =
-      let a = p .count in let e = length-append (text bs) (drop (length (text bs)) o) in let l = ap length (p .front) in
-      omega arith

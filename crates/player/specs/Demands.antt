@@ -1,17 +1,16 @@
--- What is proved of playing a schedule: demand 2 for the player, which line is the only one, a line for each step, and that
--- numbers are printed in decimal. proofs/ has a proof of each, under the same name in small letters.
+-- What is proved of playing a schedule: demand 2 for the player, which line is the only one, and a line for each step.
+-- proofs/Demands.antt has a proof of each, under the same name in small letters.
 use mathlib.Core.Path.{_≡_}
 use mathlib.Core.Bool.{Bool, not, _&&_}
-use mathlib.Core.List.{List, [], _∷_, _++_}
-use Prim.Native.Nat.{ℕ, _+_, _-_, _*_}
+use mathlib.Core.List.{List, _++_}
+use Prim.Native.Nat.{ℕ, _+_}
 use lib.Dec.{T}
 use lib.ListN.{length}
 use Rattle.book.specs.Choice.{if_then_else_}
-use Rattle.book.specs.Total.{all}
-use Rattle.book.specs.Sizes.{within, fits}
+use Rattle.book.specs.Sizes.{fits}
 use Rattle.book.specs.Book as B
-use Rattle.player.specs.Schedule.{isLong, isHeader, sizeIn, wholeSteps, stepsOf, isCut, only, numbered, cutShort, played}
-use Rattle.player.specs.Printed.{decimal}
+use Rattle.schedule.specs.Bytes.{isLong, isHeader, sizeIn, wholeSteps, stepsOf, isCut}
+use Rattle.player.specs.Spoken.{only, numbered, cutShort, played}
 
 -- ---- demand 2
 
@@ -36,27 +35,3 @@ PlayedOnly =
 
 unfoldable pub LineForEach : Type 0
 LineForEach = (bs : List ℕ) → T (opens bs) → length (played bs) ≡ wholeSteps bs + (if isCut bs then 1 else 0)
-
--- ---- decimal
-
--- the number that bytes say, read from the left behind n
-abbrev pub readFrom : ℕ → List ℕ → ℕ
-readFrom n [] = n
-readFrom n (b ∷ bs) = readFrom (n * 10 + (b - 48)) bs
-
-abbrev pub isDigit : ℕ → Bool
-isDigit b = within 48 57 b
-
--- the digits of n, with no zero in front unless it is the only digit
-pub record Decimal (n : ℕ) (bs : List ℕ) : Type 0 where
-  pub digits : T (all isDigit bs)
-  pub reads : readFrom 0 bs ≡ n
-  pub leading : (rest : List ℕ) → bs ≡ 48 ∷ rest → rest ≡ []
-  pub some : bs ≡ [] → ⊥
-
--- a number's digits are such, and nothing else is
-unfoldable pub DecimalDigits : Type 0
-DecimalDigits = (n : ℕ) → Decimal n (decimal n)
-
-unfoldable pub DecimalOnly : Type 0
-DecimalOnly = (n : ℕ) (bs : List ℕ) → Decimal n bs → bs ≡ decimal n

@@ -1,4 +1,4 @@
-pub mod Schedule
+pub mod Spoken
 pub mod Printed
 pub mod Promises
 pub mod Parts

@@ -1,38 +1,18 @@
--- What the functions behind `play` promise and ask for: a step as it is read, bytes written from a place on, the entries that
--- are lent, and what the line is played with.
+-- What the functions behind `play` promise and ask for: the room for a text, the entries that are lent, and what the line is
+-- played with.
 use mathlib.Core.Path.{_≡_}
 use mathlib.Core.List.{List}
-use Prim.Native.Nat.{ℕ, _+_, _*_, _≤_}
-use lib.ListN.{length, take, replicate}
-use lib.Seq.{sets}
-use Rattle.words.specs.declared.Letters.{Letters}
+use Prim.Native.Nat.{ℕ, _*_, _≤_}
+use lib.ListN.{length, replicate}
 use Rattle.book.specs.Choice.{if_then_else_, _<ᵇ_}
-use Rattle.book.specs.Steps.{Step}
 use Rattle.line.specs.Line.{Line, sizeOf}
 use Rattle.line.specs.Agrees.{Lawful}
-use Rattle.player.specs.declared.reading.Asked.{Asked}
-use Rattle.player.specs.Schedule.{limit, headerBytes}
+use Rattle.schedule.specs.Bytes.{limit, headerBytes, mostSteps}
+use Rattle.printing.specs.Writes.{lineMost}
 
--- ---- reading and writing
-
--- a step as it is read, and the letters of a word as it is handed over
-abbrev pub stepOf : Asked → Step
-stepOf s = record { code = s .code; a = s .a; b = s .b }
-
-abbrev pub lettersOf : Letters → List ℕ
-lettersOf w = take (w .len) (w .bytes)
-
--- there is room for the bytes xs from place at on, they are stored there, and the answer is the place behind them
-pub record Writes (at : ℕ) (xs before : List ℕ) (r : ℕ) (after : List ℕ) : Type 0 where
-  pub room : r ≤ length before
-  pub answer : r ≡ at + length xs
-  pub stored : after ≡ sets before at xs
-
--- ---- playing
-
--- room for every text: 7,200 lines at most, of 25 bytes at most
+-- room for every text: a line for each step of the longest schedule
 abbrev pub textBytes : ℕ
-textBytes = 180000
+textBytes = mostSteps * lineMost
 
 -- the store
 abbrev pub storeEntries : ℕ

@@ -1,34 +1,33 @@
 // The schedule player: a schedule's bytes in, the printed lines out.
 //
-// `play` takes the whole schedule, of any length, and writes its text to the front of `out`. What a
-// schedule means stands in specs/Schedule.antt, the text of its lines in specs/Printed.antt, and the
+// `play` takes the whole schedule, of any length, and writes its text to the front of `out`. What playing
+// a schedule says stands in specs/Spoken.antt, the text of its lines in specs/Printed.antt, and the
 // promise in specs/Promises.antt: the text, its length, and nothing behind it changed.
-mod opening;
-mod reading;
+mod lines;
 mod steps;
-mod writing;
+mod store;
 
-use opening::play_opened;
-use reading::is_header;
-use reading::is_long;
-pub use reading::number_in;
-use writing::only_header;
-use writing::only_long;
+use lines::write_only;
+use schedule::reading::is_header;
+use schedule::reading::is_long;
+use store::ENTRIES;
+use store::play_opened;
+use words::spelt;
 ghost use Rattle.player.specs.Promises.{Plays};
 
-// Room for every text: 7,200 lines at most, of 25 bytes at most.
-pub const TEXT: usize = 180000;
+// Room for every text: a line for each step of the longest schedule.
+pub const TEXT: usize = schedule::STEPS * printing::LINE;
 
 // Plays a schedule. The store is all zero before the first byte is read.
 pub fn play(input: &[u8], out: &mut [u8; TEXT]) -> usize
     ensures { λ r. ⌜ Plays (now (input .entry)) (now (out .entry)) r (now (out .exit)) ⌝ }
 {
-    let mut store = [0u32; 4096];
+    let mut store = [0u32; ENTRIES];
     if is_long(input) {
-        return only_long(out);
+        return write_only(out, spelt(*b"LONG\0\0\0\0", 4));
     }
     if is_header(input) {
         return play_opened(input, out, &mut store, input[5], input[6], input[7]);
     }
-    only_header(out)
+    write_only(out, spelt(*b"HEADER\0\0", 6))
 }

@@ -1,22 +1,24 @@
 // The steps of a schedule, one after the other, on the line that was opened for it.
-use crate::reading::is_cut;
-use crate::reading::step_at;
-use crate::reading::whole_steps;
-use crate::writing::write_answer;
-use crate::writing::write_cut;
+use crate::lines::write_cut;
 use engine::step::step;
 use line::Block;
 use line::Head;
+use printing::write_answer;
+use schedule::reading::is_cut;
+use schedule::reading::step_at;
+use schedule::reading::whole_steps;
 ghost use mathlib.Core.Path.{_≡_};
 ghost use Prim.Native.Nat.{suc, _<_};
 ghost use Rattle.rules.specs.Lent.{lineOf};
-ghost use Rattle.player.specs.Schedule.{run};
+ghost use Rattle.printing.specs.Text.{numbersBelow};
+ghost use Rattle.printing.specs.Writes.{Writes};
+ghost use Rattle.player.specs.Spoken.{run};
 ghost use Rattle.player.specs.Printed.{printed};
-ghost use Rattle.player.specs.Parts.{Writes, Playable};
+ghost use Rattle.player.specs.Parts.{Playable};
 
 // Steps are numbered from 1.
 fn number_of(i: usize) -> u32
-    requires { ⌜ i < 9999 ⌝ }
+    requires { ⌜ suc i < numbersBelow ⌝ }
     ensures { λ r. ⌜ r ≡ suc i ⌝ }
 {
     (i + 1) as u32

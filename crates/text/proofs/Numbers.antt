@@ -10,7 +10,7 @@ use lib.ListN.{length, getD, drop, drop-of-length-le}
 use lib.Seq.{drop-cons}
 use Rattle.book.specs.Total.{all}
 use Rattle.book.proofs.Choice.{cases, choose-true, choose-false, not→false, and-first, and-second, and-in}
-use Rattle.player.specs.Demands.{readFrom, isDigit}
+use Rattle.printing.specs.Decimal.{readFrom, isDigit}
 use Rattle.text.specs.Pieces.{isNone, greatest, isNumber, value}
 
 pub value-is : (w : List ℕ) → T (isNumber w) → value w ≡ readFrom 0 w

@@ -4,8 +4,8 @@ use mathlib.Core.List.{List, [], _∷_, _++_, map, append-nil, append-assoc}
 use Prim.Native.Nat.{ℕ, zero, suc, _+_, _≤_, _<_}
 use native.Mathlib.Omega.{arith}
 use lib.ListN.{length, drop, set, length-append, drop-of-length-le}
-use Rattle.player.specs.Parts.{Writes}
-use Rattle.player.proofs.Stores.{writes-more, writes-length, writes-one, writes-none}
+use Rattle.printing.specs.Writes.{Writes}
+use Rattle.printing.proofs.Stores.{writes-more, writes-length, writes-one, writes-none}
 use Rattle.text.specs.declared.pieces.Part.{Part}
 use Rattle.text.specs.Pieces.{numbers, value}
 use Rattle.text.specs.Meaning.{low}

@@ -8,8 +8,8 @@ use native.Mathlib.Omega.{arith}
 use lib.ListN.{length, take, drop, length-append, length-drop, drop-of-length-le}
 use lib.Seq.{take-at, length-take-le}
 use Rattle.book.proofs.Choice.{lt→true, ge→false}
-use Rattle.player.specs.Parts.{Writes}
-use Rattle.player.proofs.Stores.{writes-more, writes-length, front}
+use Rattle.printing.specs.Writes.{Writes}
+use Rattle.printing.proofs.Stores.{writes-more, writes-length, front}
 use Rattle.text.specs.declared.pieces.Part.{Part}
 use Rattle.text.specs.declared.items.Wanted.{Wanted}
 use Rattle.text.specs.declared.items.Wanted.the-variants.{Room, Text}
@@ -68,7 +68,7 @@ pub record Going (t before : List ℕ) (at number end : ℕ) (out : List ℕ) : 
   pub same : going number done (lines (drop at t)) ≡ going 1 [] (lines t)
 
 pub going-start : (t before : List ℕ) → Going t before 0 1 0 before
-going-start t before = record { done = []; writes = record { room = omega arith; answer = refl; stored = refl }; same = refl }
+going-start t before = record { done = []; writes = record { room = omega arith; answer = refl; bytes = refl }; same = refl }
 
 going-refuses : (n : ℕ) (done x : List ℕ) (ls : List (List ℕ)) (b : List ℕ) → b ≡ bare x → isRefused (item b) ≡ true
     → going n done (x ∷ ls) ≡ refused n (wantedOf (item b))
@@ -183,6 +183,18 @@ module _ (zeros : List ℕ) (r : Answer) (room : List ℕ) where
   unfolding Filled
   bad-outcome (bytes bs) f n w e before = absurd (let z : _≡_ {A = ℕ} 0 1 = cc (f .0) in omega arith)
   bad-outcome (refused k v) f n w e before = rw f refl
+
+-- for a caller, who writes the front
+
+made-front : (m : Meaning) (n : ℕ) (before after : List ℕ) → (Made n, after) ≡ outcome m before → n ≤ length after
+made-front (bytes bs) n before after e =
+    let p : Made n ≡ Made (length bs) = ap (λ (x : Answer × List ℕ). x .0) e in let k : n ≡ length bs = cc in
+    let f : after ≡ bs ++ drop (length bs) before = ap (λ (x : Answer × List ℕ). x .1) e in
+    omega (arith, ap length f, length-append bs (drop (length bs) before))
+made-front (refused k w) n before after e = absurd (let p : Made n ≡ Bad k w = ap (λ (x : Answer × List ℕ). x .0) e in let z : _≡_ {A = ℕ} 0 1 = cc in omega arith)
+
+pub made-room : (t before after : List ℕ) (n : ℕ) (r : Answer) → (r, after) ≡ outcome (meaning t) before → r ≡ Made n → n ≤ length after
+made-room t before after n r e f = made-front (meaning t) n before after (subst (λ (x : Answer). (x, after) ≡ outcome (meaning t) before) f e)
 
 -- ---- any two outcomes that the promise allows are equal
 

@@ -13,7 +13,7 @@ use Rattle.text.specs.declared.Answer.{Answer}
 use Rattle.text.specs.declared.Answer.the-variants.{Made, Bad}
 use Rattle.text.specs.Items.{larger}
 use Rattle.text.specs.Meaning.{Meaning, bytes, refused}
-use Rattle.player.specs.Parts.{Writes}
+use Rattle.printing.specs.Writes.{Writes}
 use Rattle.text.specs.Pieces.{isBlank, isLetter, isInLine, word, behind, lines, bare}
 
 abbrev pub passes : Stop → ℕ → Bool

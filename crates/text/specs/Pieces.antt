@@ -5,7 +5,7 @@ use Prim.Native.Nat.{ℕ, zero, suc, _+_, _-_}
 use lib.ListN.{length, getD, take, drop}
 use Rattle.book.specs.Choice.{if_then_else_, _≤ᵇ_, _≡ᵇ_}
 use Rattle.book.specs.Total.{all}
-use Rattle.player.specs.Demands.{readFrom, isDigit}
+use Rattle.printing.specs.Decimal.{readFrom, isDigit}
 
 -- ---- lines
 

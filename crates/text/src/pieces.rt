@@ -2,7 +2,7 @@
 ghost use mathlib.Core.Path.{_≡_};
 ghost use Prim.Native.Nat.{_+_, _-_, _*_, _≤_, _<_};
 ghost use lib.ListN.{length, drop};
-ghost use Rattle.player.specs.Demands.{isDigit};
+ghost use Rattle.printing.specs.Decimal.{isDigit};
 ghost use Rattle.text.specs.Pieces.{span, same, value, bareLength};
 ghost use Rattle.text.specs.Parts.{passes, WordAt, LineAt};
 

@@ -8,7 +8,7 @@ ghost use mathlib.Core.Path.{_≡_};
 ghost use mathlib.Core.List.{_++_, _∷_, map};
 ghost use Prim.Native.Nat.{_+_, _*_, _≤_};
 ghost use lib.ListN.{length, drop};
-ghost use Rattle.player.specs.Parts.{Writes};
+ghost use Rattle.printing.specs.Writes.{Writes};
 ghost use Rattle.text.specs.Pieces.{numbers};
 ghost use Rattle.text.specs.Items.{nameOf};
 ghost use Rattle.text.specs.Meaning.{low, four, stepBytes, headerBytes, repeat, said};

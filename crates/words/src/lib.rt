@@ -93,8 +93,8 @@ pub fn word(a: Answer) -> Letters
     }
 }
 
-// A word of `len` letters.
-fn spelt(bytes: [u8; 8], len: u8) -> Letters
+// A word by its letters: the first `len` of eight bytes, with zeros behind them.
+pub fn spelt(bytes: [u8; 8], len: u8) -> Letters
     ensures { λ r. ⌜ r ≡ record { bytes = bytes; len = len } ⌝ }
 {
     Letters { bytes, len }

@@ -1,5 +1,4 @@
 -- The cast of the time: it is positive by the test, and what the machine reads back from its bits is the time.
--- Assumes nothing.
 use mathlib.Core.Path.{_≡_, sym, subst}
 use native.Mathlib.Nat.{lt-of-le-of-lt}
 use mathlib.Core.Bool.{true}

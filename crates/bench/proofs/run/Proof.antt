@@ -1,5 +1,4 @@
 -- The loop: i counts to a million, no more answers are refusals than there were steps, and the entries keep their length.
--- Assumes nothing.
 use Prim.Native.Nat.{_≤_, _-_}
 use mathlib.Core.Path.{_≡_, _∙_}
 use lib.ListN.{length}
@@ -13,73 +12,20 @@ Inv-loop nb entries₀ n head₀ table₀ sum₀ refused₀ i₀ entries head ta
 abbrev μ-loop : tie.MeasureT-loop
 μ-loop nb entries₀ n head₀ table₀ sum₀ refused₀ i₀ entries head table sum refused i = 1000000 - i
 
-no-head-requires : tie.Need-no-head-requires Inv-loop μ-loop
-no-head-requires c κs = search needs
+-- the line that was opened, before the loop
+abbrev opened : tie.After-slice-known2 Inv-loop μ-loop → tie.After-open Inv-loop μ-loop
+opened c = c .before .before
 
-no-table-requires : tie.Need-no-table-requires Inv-loop μ-loop
-no-table-requires c κs = search needs
-
-open-requires : tie.Need-open-requires Inv-loop μ-loop
-open-requires c κs = search needs
-
-loop-holds : tie.Need-loop-holds Inv-loop μ-loop
-loop-holds c = search needs
-
-ask-requires : tie.Need-ask-requires Inv-loop μ-loop
-ask-requires c κs = search needs
-
-step-requires : tie.Need-step-requires Inv-loop μ-loop
-step-requires c κs = search needs
-
-number-requires : tie.Need-number-requires Inv-loop μ-loop
-number-requires c κs = search needs
-
-value-requires : tie.Need-value-requires Inv-loop μ-loop
-value-requires c κs = search needs
-
-add-requires : tie.Need-add-requires Inv-loop μ-loop
-add-requires c κs = search needs
-
-one-if-requires : tie.Need-one-if-requires Inv-loop μ-loop
-one-if-requires c κs = search needs
-
-add-refused : tie.Need-add-refused Inv-loop μ-loop
-add-refused c = search needs
-
-add-i : tie.Need-add-i Inv-loop μ-loop
-add-i c = search needs
-
-loop-less : tie.Need-loop-less Inv-loop μ-loop
-loop-less c = search needs
-
-loop-again : tie.Need-loop-again Inv-loop μ-loop
-loop-again c = search needs
+abbrev begun : tie.After-table Inv-loop μ-loop → tie.After-open Inv-loop μ-loop
+begun c = opened (c .before .before)
 
 same-length : tie.Need-same-length Inv-loop μ-loop
-same-length c = c .before .loop .inv .2 ∙ c .before .before .before .before .before .before .«open» .kept .1 .1 .1 .0
-
-returns : tie.Need-returns Inv-loop μ-loop
-returns c = search needs
+same-length c = let l = c .before in l .loop .inv .2 ∙ begun (l .before) .«open» .kept .1 .1 .1 .0
 
 pub run-spec : {M : Type 1} → statement M
 run-spec =
     tie.close
-    (tie.spec
-    Inv-loop
-    μ-loop
-    no-head-requires
-    no-table-requires
-    open-requires
-    loop-holds
-    ask-requires
-    step-requires
-    number-requires
-    value-requires
-    add-requires
-    one-if-requires
-    add-refused
-    add-i
-    loop-less
-    loop-again
-    same-length
-    returns)
+    (tie.spec Inv-loop μ-loop
+    (λ c κs. search needs) (λ c κs. search needs) (λ c κs. search needs) (λ c. search needs) (λ c κs. search needs) (λ c κs. search needs)
+    (λ c κs. search needs) (λ c κs. search needs) (λ c κs. search needs) (λ c κs. search needs) (λ c. search needs) (λ c. search needs)
+    (λ c. search needs) (λ c. search needs) same-length (λ c. search needs))

@@ -7,7 +7,7 @@ use Prim.Native.Nat.{ℕ, _+_, _*_, _-_, _≤_, _<_}
 use lib.ListN.{length, drop}
 use Rattle.text.specs.Items.{isNamed, isRefused, item}
 use Rattle.text.proofs.Whole.{piece-short, said-long, section-end, section-named, section-more, Going, going-start, stop-refused, stop-full, goes-on, going-end}
-use Rattle.player.proofs.Stores.{writes-length}
+use Rattle.printing.proofs.Stores.{writes-length}
 use Rattle.text.proofs.lines.fill.Statement.{statement}
 use Rattle.text.proofs.lines.fill.Tie as tie
 use Rattle.text.proofs.lines.fill.Reads as reads

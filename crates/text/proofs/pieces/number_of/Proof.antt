@@ -6,7 +6,7 @@ use borrow.Author.Needs.{needs}
 use borrow.Author.Tests.{not-true, not-false, ltb-true, ltb-false, leb-true, leb-false, eqb-true, eqb-false, eq-eqb, ne-eqb, le-leb, lt-leb, lt-ltb, le-ltb}
 use lib.Dec.{T}
 use lib.ListN.{length}
-use Rattle.player.specs.Demands.{isDigit}
+use Rattle.printing.specs.Decimal.{isDigit}
 use Rattle.text.proofs.Words.{none-short}
 use Rattle.text.proofs.Numbers.{value-not, number-some, Reading, reading-start, reading-end, reading-not, reading-large, reading-more, digit-low, digit-high}
 use Rattle.text.proofs.pieces.number_of.Statement.{statement}

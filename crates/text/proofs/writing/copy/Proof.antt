@@ -4,8 +4,8 @@ use native.Mathlib.Omega.{arith}
 use borrow.Author.Needs.{needs}
 use lib.ListN.{length, take, length-set}
 use lib.Seq.{take-length}
-use Rattle.player.specs.Parts.{Writes}
-use Rattle.player.proofs.Stores.{writes-next}
+use Rattle.printing.specs.Writes.{Writes}
+use Rattle.printing.proofs.Stores.{writes-next}
 use Rattle.text.proofs.writing.copy.Statement.{statement}
 use Rattle.text.proofs.writing.copy.Tie as tie
 use Rattle.text.proofs.writing.copy.Reads as reads
@@ -19,7 +19,7 @@ abbrev μ-loop : tie.MeasureT-loop
 
 -- src/writing.rt:22:5
 loop-holds : tie.Need-loop-holds Inv-loop μ-loop
-loop-holds c = (omega arith, refl, omega arith, refl, record { room = omega arith; answer = refl; stored = refl })
+loop-holds c = (omega arith, refl, omega arith, refl, record { room = omega arith; answer = refl; bytes = refl })
 
 -- src/writing.rt:23:23
 shared-slice-read-out : tie.Need-shared-slice-read-out Inv-loop μ-loop

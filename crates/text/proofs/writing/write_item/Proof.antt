@@ -3,8 +3,8 @@ use native.Mathlib.Omega.{arith}
 use mathlib.Core.List.{List, _++_, _∷_, map}
 use Prim.Native.Nat.{ℕ}
 use lib.ListN.{length}
-use Rattle.player.specs.Parts.{Writes}
-use Rattle.player.proofs.Stores.{writes-none}
+use Rattle.printing.specs.Writes.{Writes}
+use Rattle.printing.proofs.Stores.{writes-none}
 use Rattle.text.specs.Pieces.{numbers}
 use Rattle.text.specs.Meaning.{repeat, low, four}
 use Rattle.text.proofs.Bytes.{said-nothing, said-refused, said-header, said-steps, said-numbers, said-named, room-header, room-steps, room-numbers, room-named}

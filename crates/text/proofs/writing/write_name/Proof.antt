@@ -2,8 +2,8 @@ use mathlib.Core.Path.{_≡_, refl, sym, ap, subst, _∙_}
 use native.Mathlib.Omega.{arith}
 use mathlib.Core.List.{_∷_}
 use lib.ListN.{length, length-append}
-use Rattle.player.proofs.Stores.{writes-more, writes-length}
-use Rattle.player.specs.Parts.{Writes}
+use Rattle.printing.proofs.Stores.{writes-more, writes-length}
+use Rattle.printing.specs.Writes.{Writes}
 use mathlib.Core.List.{List}
 use Prim.Native.Nat.{ℕ}
 use Rattle.text.specs.Meaning.{four}

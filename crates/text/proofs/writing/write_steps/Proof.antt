@@ -5,8 +5,8 @@ use mathlib.Core.List.{List}
 use Prim.Native.Nat.{ℕ, suc, _+_, _*_, _-_, _≤_}
 use native.Mathlib.Numerals.{add-one}
 use lib.ListN.{length}
-use Rattle.player.proofs.Stores.{writes-more, writes-length, writes-none}
-use Rattle.player.specs.Parts.{Writes}
+use Rattle.printing.proofs.Stores.{writes-more, writes-length, writes-none}
+use Rattle.printing.specs.Writes.{Writes}
 use Rattle.text.specs.Meaning.{repeat}
 use Rattle.text.proofs.Bytes.{repeat-none, repeat-last, repeat-long}
 use Rattle.text.proofs.writing.write_steps.Statement.{statement}

@@ -1,0 +1,4 @@
+pub mod Text
+pub mod Writes
+pub mod Decimal
+pub mod Cases
