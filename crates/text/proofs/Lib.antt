@@ -7,3 +7,4 @@ pub mod Meant
 pub mod Bytes
 pub mod Stored
 pub mod Whole
+pub mod Cases

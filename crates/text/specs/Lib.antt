@@ -2,3 +2,4 @@ pub mod Pieces
 pub mod Items
 pub mod Meaning
 pub mod Parts
+pub mod Cases
