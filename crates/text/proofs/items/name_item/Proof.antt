@@ -1,20 +1,15 @@
+-- There is a name if the line does not end before it.
 use Rattle.text.proofs.Meant.{name-none, name-some}
 use borrow.Author.Needs.{needs}
 use Rattle.text.proofs.items.name_item.Statement.{statement}
 use Rattle.text.proofs.items.name_item.Tie as tie
-use Rattle.text.proofs.items.name_item.Reads as reads
-use Rattle.text.proofs.items.name_item.Lts as lts
-use Rattle.text.proofs.items.name_at.Reads as name-at-reads
 
--- src/items.rt:304:22
 name-at-requires : tie.Need-name-at-requires
 name-at-requires c κs = search needs
 
--- src/items.rt:305:9
 returns : tie.Need-returns
 returns c = name-none _ _ (c .before .name-at .ensures .1) (c .if1 .taken)
 
--- src/items.rt:301:1
 returns-2 : tie.Need-returns-2
 returns-2 c = name-some _ _ (c .before .name-at .ensures .1) (c .if1 .left)
 

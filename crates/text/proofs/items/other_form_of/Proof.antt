@@ -1,86 +1,65 @@
-use mathlib.Core.Path.{_≡_, refl, sym, ap, subst, _∙_}
+-- The tests in the order of the definition.
+use mathlib.Core.Path.{sym, _∙_}
 use Rattle.text.specs.Items.{otherFormOf}
 use borrow.Author.Needs.{needs}
 use Rattle.text.proofs.items.other_form_of.Statement.{statement}
 use Rattle.text.proofs.items.other_form_of.Tie as tie
-use Rattle.text.proofs.items.other_form_of.Reads as reads
-use Rattle.text.proofs.items.other_form_of.Lts as lts
-use Rattle.text.proofs.items.other_form.Reads as other-form-reads
-use Rattle.text.proofs.pieces.same_bytes.Reads as same-bytes-reads
 
--- src/items.rt:146:25
 slice-aggregate-same-bytes : tie.Need-slice-aggregate-same-bytes
 slice-aggregate-same-bytes c = search needs
 
--- src/items.rt:146:8
 same-bytes-requires : tie.Need-same-bytes-requires
 same-bytes-requires c κs = search needs
 
--- src/items.rt:147:9
 other-form-requires : tie.Need-other-form-requires
 other-form-requires c κs = search needs
 
--- src/items.rt:147:9
 returns : tie.Need-returns
 unfolding otherFormOf
 returns c = rw (sym (c .before .before .same-bytes .ensures) ∙ c .before .if1 .taken) (c .other-form .ensures)
 
--- src/items.rt:149:25
 slice-aggregate-same-bytes-2 : tie.Need-slice-aggregate-same-bytes-2
 slice-aggregate-same-bytes-2 c = search needs
 
--- src/items.rt:149:8
 same-bytes-requires-2 : tie.Need-same-bytes-requires-2
 same-bytes-requires-2 c κs = search needs
 
--- src/items.rt:150:9
 other-form-requires-2 : tie.Need-other-form-requires-2
 other-form-requires-2 c κs = search needs
 
--- src/items.rt:150:9
 returns-2 : tie.Need-returns-2
 unfolding otherFormOf
 returns-2 c = rw (sym (c .before .before .before .before .before .same-bytes .ensures) ∙ c .before .before .before .before .if1 .left, sym (c .before .before .same-bytes2 .ensures) ∙ c .before .if2 .taken) (c .other-form2 .ensures)
 
--- src/items.rt:152:25
 slice-aggregate-same-bytes-3 : tie.Need-slice-aggregate-same-bytes-3
 slice-aggregate-same-bytes-3 c = search needs
 
--- src/items.rt:152:8
 same-bytes-requires-3 : tie.Need-same-bytes-requires-3
 same-bytes-requires-3 c κs = search needs
 
--- src/items.rt:153:9
 other-form-requires-3 : tie.Need-other-form-requires-3
 other-form-requires-3 c κs = search needs
 
--- src/items.rt:153:9
 returns-3 : tie.Need-returns-3
 unfolding otherFormOf
 returns-3 c = rw (sym (c .before .before .before .before .before .before .before .before .same-bytes .ensures) ∙ c .before .before .before .before .before .before .before .if1 .left, sym (c .before .before .before .before .before .same-bytes2 .ensures) ∙ c .before .before .before .before .if2 .left, sym (c .before .before .same-bytes3 .ensures) ∙ c .before .if3 .taken) (c .other-form3 .ensures)
 
--- src/items.rt:155:25
 slice-aggregate-same-bytes-4 : tie.Need-slice-aggregate-same-bytes-4
 slice-aggregate-same-bytes-4 c = search needs
 
--- src/items.rt:155:8
 same-bytes-requires-4 : tie.Need-same-bytes-requires-4
 same-bytes-requires-4 c κs = search needs
 
--- src/items.rt:156:9
 other-form-requires-4 : tie.Need-other-form-requires-4
 other-form-requires-4 c κs = search needs
 
--- src/items.rt:156:9
 returns-4 : tie.Need-returns-4
 unfolding otherFormOf
 returns-4 c = rw (sym (c .before .before .before .before .before .before .before .before .before .before .before .same-bytes .ensures) ∙ c .before .before .before .before .before .before .before .before .before .before .if1 .left, sym (c .before .before .before .before .before .before .before .before .same-bytes2 .ensures) ∙ c .before .before .before .before .before .before .before .if2 .left, sym (c .before .before .before .before .before .same-bytes3 .ensures) ∙ c .before .before .before .before .if3 .left, sym (c .before .before .same-bytes4 .ensures) ∙ c .before .if4 .taken) (c .other-form4 .ensures)
 
--- src/items.rt:158:5
 other-form-requires-5 : tie.Need-other-form-requires-5
 other-form-requires-5 c κs = search needs
 
--- src/items.rt:143:1
 returns-5 : tie.Need-returns-5
 unfolding otherFormOf
 returns-5 c = rw (sym (c .before .before .before .before .before .before .before .before .before .before .before .same-bytes .ensures) ∙ c .before .before .before .before .before .before .before .before .before .before .if1 .left, sym (c .before .before .before .before .before .before .before .before .same-bytes2 .ensures) ∙ c .before .before .before .before .before .before .before .if2 .left, sym (c .before .before .before .before .before .same-bytes3 .ensures) ∙ c .before .before .before .before .if3 .left, sym (c .before .before .same-bytes4 .ensures) ∙ c .before .if4 .left) (c .other-form5 .ensures)

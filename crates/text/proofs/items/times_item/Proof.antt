@@ -1,119 +1,112 @@
-use mathlib.Core.Path.{_≡_, refl, sym, ap, subst, _∙_}
+-- The two words that were found are those of the definition.
 use Rattle.text.proofs.Meant.{times-large, times-step}
 use borrow.Author.Needs.{needs}
 use Rattle.text.proofs.items.times_item.Statement.{statement}
 use Rattle.text.proofs.items.times_item.Tie as tie
-use Rattle.text.proofs.items.times_item.Reads as reads
-use Rattle.text.proofs.items.times_item.Lts as lts
-use Rattle.text.proofs.items.args_from.Reads as args-from-reads
-use Rattle.text.proofs.items.form_of.Reads as form-of-reads
-use Rattle.text.proofs.items.step_item.Reads as step-item-reads
-use Rattle.text.proofs.pieces.number_of.Reads as number-of-reads
-use Rattle.text.proofs.pieces.word_at.Reads as word-at-reads
 
--- src/items.rt:269:9
 word-at-requires : tie.Need-word-at-requires
 word-at-requires c κs = search needs
 
--- src/items.rt:272:23
 sub-number-of : tie.Need-sub-number-of
 sub-number-of c = search needs
 
--- src/items.rt:272:23
 part-number-of-start : tie.Need-part-number-of-start
 part-number-of-start c = search needs
 
--- src/items.rt:272:23
 part-number-of-end : tie.Need-part-number-of-end
 part-number-of-end c = search needs
 
--- src/items.rt:272:9
 number-of-requires : tie.Need-number-of-requires
 number-of-requires c κs = search needs
 
--- src/items.rt:274:9
 returns : tie.Need-returns
-returns c = let w = c .before .before .before .word-at in times-large _ _ _ (w .ensures) _ (c .before .number-of .ensures) (c .if1 .taken)
+returns c =
+    let w = c .before .before .before .word-at in
+    times-large _ _ _ (w .ensures) _ (c .before .number-of .ensures) (c .if1 .taken)
 
--- src/items.rt:276:9
 word-at-requires-2 : tie.Need-word-at-requires-2
 word-at-requires-2 c κs = search needs
 
--- src/items.rt:279:21
 sub-form-of : tie.Need-sub-form-of
 sub-form-of c = search needs
 
--- src/items.rt:279:21
 part-form-of-start : tie.Need-part-form-of-start
 part-form-of-start c = search needs
 
--- src/items.rt:279:21
 part-form-of-end : tie.Need-part-form-of-end
 part-form-of-end c = search needs
 
--- src/items.rt:279:9
 form-of-requires : tie.Need-form-of-requires
 form-of-requires c κs = search needs
 
--- src/items.rt:280:26
 args-from-requires : tie.Need-args-from-requires
 args-from-requires c κs = search needs
 
--- src/items.rt:280:48
 cast-step-item : tie.Need-cast-step-item
 cast-step-item c = search needs
 
--- src/items.rt:280:9
 step-item-requires : tie.Need-step-item-requires
 step-item-requires c κs = search needs
 
--- src/items.rt:283:25
 enum-told : tie.Need-enum-told
 enum-told c = search needs
 
--- src/items.rt:284:39
 enum-told-2 : tie.Need-enum-told-2
 enum-told-2 c = search needs
 
--- src/items.rt:285:40
 enum-told-3 : tie.Need-enum-told-3
 enum-told-3 c = search needs
 
--- src/items.rt:286:40
 enum-told-4 : tie.Need-enum-told-4
 enum-told-4 c = search needs
 
--- src/items.rt:287:39
 enum-told-5 : tie.Need-enum-told-5
 enum-told-5 c = search needs
 
--- src/items.rt:288:40
 enum-told-6 : tie.Need-enum-told-6
 enum-told-6 c = search needs
 
--- src/items.rt:265:1
 returns-2 : tie.Need-returns-2
-returns-2 c = let s = c .before .before in let w = c .before .before .before .before .before .before .before .before .before .before .word-at in let v = c .before .before .before .before .before .before .word-at2 in times-step _ _ _ (w .ensures) _ (c .before .before .before .before .before .before .before .before .number-of .ensures) _ (v .ensures) _ (c .before .before .before .before .form-of .ensures) (c .before .before .before .before .before .before .before .if1 .left) _ (c .before .before .before .args-from .ensures .0) _ (s .step-item .ensures) _ (c .enum-told .given .1)
+returns-2 c =
+    let s = c .before .before in
+    let w = c .before .before .before .before .before .before .before .before .before .before .word-at in
+    let v = c .before .before .before .before .before .before .word-at2 in
+    times-step _ _ _ (w .ensures) _ (c .before .before .before .before .before .before .before .before .number-of .ensures) _ (v .ensures) _ (c .before .before .before .before .form-of .ensures) (c .before .before .before .before .before .before .before .if1 .left) _ (c .before .before .before .args-from .ensures .0) _ (s .step-item .ensures) _ (c .enum-told .given .1)
 
--- src/items.rt:265:1
 returns-3 : tie.Need-returns-3
-returns-3 c = let s = c .before .before in let w = c .before .before .before .before .before .before .before .before .before .before .word-at in let v = c .before .before .before .before .before .before .word-at2 in times-step _ _ _ (w .ensures) _ (c .before .before .before .before .before .before .before .before .number-of .ensures) _ (v .ensures) _ (c .before .before .before .before .form-of .ensures) (c .before .before .before .before .before .before .before .if1 .left) _ (c .before .before .before .args-from .ensures .0) _ (s .step-item .ensures) _ (c .enum-told2 .given .1)
+returns-3 c =
+    let s = c .before .before in
+    let w = c .before .before .before .before .before .before .before .before .before .before .word-at in
+    let v = c .before .before .before .before .before .before .word-at2 in
+    times-step _ _ _ (w .ensures) _ (c .before .before .before .before .before .before .before .before .number-of .ensures) _ (v .ensures) _ (c .before .before .before .before .form-of .ensures) (c .before .before .before .before .before .before .before .if1 .left) _ (c .before .before .before .args-from .ensures .0) _ (s .step-item .ensures) _ (c .enum-told2 .given .1)
 
--- src/items.rt:265:1
 returns-4 : tie.Need-returns-4
-returns-4 c = let s = c .before .before in let w = c .before .before .before .before .before .before .before .before .before .before .word-at in let v = c .before .before .before .before .before .before .word-at2 in times-step _ _ _ (w .ensures) _ (c .before .before .before .before .before .before .before .before .number-of .ensures) _ (v .ensures) _ (c .before .before .before .before .form-of .ensures) (c .before .before .before .before .before .before .before .if1 .left) _ (c .before .before .before .args-from .ensures .0) _ (s .step-item .ensures) _ (c .enum-told3 .given .1)
+returns-4 c =
+    let s = c .before .before in
+    let w = c .before .before .before .before .before .before .before .before .before .before .word-at in
+    let v = c .before .before .before .before .before .before .word-at2 in
+    times-step _ _ _ (w .ensures) _ (c .before .before .before .before .before .before .before .before .number-of .ensures) _ (v .ensures) _ (c .before .before .before .before .form-of .ensures) (c .before .before .before .before .before .before .before .if1 .left) _ (c .before .before .before .args-from .ensures .0) _ (s .step-item .ensures) _ (c .enum-told3 .given .1)
 
--- src/items.rt:265:1
 returns-5 : tie.Need-returns-5
-returns-5 c = let s = c .before .before in let w = c .before .before .before .before .before .before .before .before .before .before .word-at in let v = c .before .before .before .before .before .before .word-at2 in times-step _ _ _ (w .ensures) _ (c .before .before .before .before .before .before .before .before .number-of .ensures) _ (v .ensures) _ (c .before .before .before .before .form-of .ensures) (c .before .before .before .before .before .before .before .if1 .left) _ (c .before .before .before .args-from .ensures .0) _ (s .step-item .ensures) _ (c .enum-told4 .given .1)
+returns-5 c =
+    let s = c .before .before in
+    let w = c .before .before .before .before .before .before .before .before .before .before .word-at in
+    let v = c .before .before .before .before .before .before .word-at2 in
+    times-step _ _ _ (w .ensures) _ (c .before .before .before .before .before .before .before .before .number-of .ensures) _ (v .ensures) _ (c .before .before .before .before .form-of .ensures) (c .before .before .before .before .before .before .before .if1 .left) _ (c .before .before .before .args-from .ensures .0) _ (s .step-item .ensures) _ (c .enum-told4 .given .1)
 
--- src/items.rt:265:1
 returns-6 : tie.Need-returns-6
-returns-6 c = let s = c .before .before in let w = c .before .before .before .before .before .before .before .before .before .before .word-at in let v = c .before .before .before .before .before .before .word-at2 in times-step _ _ _ (w .ensures) _ (c .before .before .before .before .before .before .before .before .number-of .ensures) _ (v .ensures) _ (c .before .before .before .before .form-of .ensures) (c .before .before .before .before .before .before .before .if1 .left) _ (c .before .before .before .args-from .ensures .0) _ (s .step-item .ensures) _ (c .enum-told5 .given .1)
+returns-6 c =
+    let s = c .before .before in
+    let w = c .before .before .before .before .before .before .before .before .before .before .word-at in
+    let v = c .before .before .before .before .before .before .word-at2 in
+    times-step _ _ _ (w .ensures) _ (c .before .before .before .before .before .before .before .before .number-of .ensures) _ (v .ensures) _ (c .before .before .before .before .form-of .ensures) (c .before .before .before .before .before .before .before .if1 .left) _ (c .before .before .before .args-from .ensures .0) _ (s .step-item .ensures) _ (c .enum-told5 .given .1)
 
--- src/items.rt:265:1
 returns-7 : tie.Need-returns-7
-returns-7 c = let s = c .before .before in let w = c .before .before .before .before .before .before .before .before .before .before .word-at in let v = c .before .before .before .before .before .before .word-at2 in times-step _ _ _ (w .ensures) _ (c .before .before .before .before .before .before .before .before .number-of .ensures) _ (v .ensures) _ (c .before .before .before .before .form-of .ensures) (c .before .before .before .before .before .before .before .if1 .left) _ (c .before .before .before .args-from .ensures .0) _ (s .step-item .ensures) _ (c .enum-told6 .given .1)
+returns-7 c =
+    let s = c .before .before in
+    let w = c .before .before .before .before .before .before .before .before .before .before .word-at in
+    let v = c .before .before .before .before .before .before .word-at2 in
+    times-step _ _ _ (w .ensures) _ (c .before .before .before .before .before .before .before .before .number-of .ensures) _ (v .ensures) _ (c .before .before .before .before .form-of .ensures) (c .before .before .before .before .before .before .before .if1 .left) _ (c .before .before .before .args-from .ensures .0) _ (s .step-item .ensures) _ (c .enum-told6 .given .1)
 
 pub times-item-spec : {M : Type 1} → statement M
 times-item-spec =

@@ -1,32 +1,24 @@
+-- Part by part.
 use mathlib.Core.Path.{refl}
 use borrow.Author.Needs.{needs}
 use Rattle.text.proofs.items.with_number.Statement.{statement}
 use Rattle.text.proofs.items.with_number.Tie as tie
-use Rattle.text.proofs.items.with_number.Reads as reads
-use Rattle.text.proofs.items.with_number.Lts as lts
-use Rattle.text.proofs.items.pick.Reads as pick-reads
 
--- src/items.rt:173:9
 pick-requires : tie.Need-pick-requires
 pick-requires c κs = search needs
 
--- src/items.rt:174:9
 pick-requires-2 : tie.Need-pick-requires-2
 pick-requires-2 c κs = search needs
 
--- src/items.rt:175:9
 pick-requires-3 : tie.Need-pick-requires-3
 pick-requires-3 c κs = search needs
 
--- src/items.rt:176:9
 pick-requires-4 : tie.Need-pick-requires-4
 pick-requires-4 c κs = search needs
 
--- src/items.rt:178:16
 add-t9 : tie.Need-add-t9
 add-t9 c = search needs
 
--- src/items.rt:168:1
 returns : tie.Need-returns
 returns c = rw (c .before .before .before .pick .ensures, c .before .before .pick2 .ensures, c .before .pick3 .ensures, c .pick4 .ensures) refl
 

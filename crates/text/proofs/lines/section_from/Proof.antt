@@ -1,23 +1,17 @@
-use mathlib.Core.Path.{_≡_, refl, sym, ap, subst, _∙_}
+-- The bytes of the lines passed, and those of the lines left, are the section's.
+use mathlib.Core.Path.{_≡_, sym, ap, _∙_}
 use native.Mathlib.Omega.{arith}
 use borrow.Author.Needs.{needs}
-use borrow.Author.Tests.{not-true, not-false, ltb-true, ltb-false, leb-true, leb-false, eqb-true, eqb-false, eq-eqb, ne-eqb, le-leb, lt-leb, lt-ltb, le-ltb}
-use Prim.Native.Nat.{ℕ, _+_, _*_, _-_, _≤_, _<_}
+use Prim.Native.Nat.{_+_, _*_, _-_, _≤_}
 use native.Mathlib.Nat.{zero-add}
 use lib.ListN.{length, drop, take}
 use Rattle.text.specs.Pieces.{lines}
 use Rattle.text.specs.declared.items.Item.{Item}
 use Rattle.text.specs.Meaning.{said, section}
-use Rattle.text.specs.Items.{isNamed, isRefused, item}
-use Rattle.text.proofs.Whole.{piece-short, said-long, section-end, section-named, section-more, Going, going-start, stop-refused, stop-full, goes-on, going-end}
+use Rattle.text.specs.Items.{isNamed}
+use Rattle.text.proofs.Whole.{piece-short, section-end, section-named, section-more}
 use Rattle.text.proofs.lines.section_from.Statement.{statement}
 use Rattle.text.proofs.lines.section_from.Tie as tie
-use Rattle.text.proofs.lines.section_from.Reads as reads
-use Rattle.text.proofs.lines.section_from.Lts as lts
-use Rattle.text.proofs.items.is_named.Reads as is-named-reads
-use Rattle.text.proofs.items.item_of.Reads as item-of-reads
-use Rattle.text.proofs.pieces.line_at.Reads as line-at-reads
-use Rattle.text.proofs.writing.size_of.Reads as size-of-reads
 
 abbrev Inv-loop : tie.InvT-loop
 Inv-loop text from at₀ total₀ at total = (length text ≤ 262144) × (total ≤ 137438953472 * at) × (total + section (lines (drop at text)) ≡ section (lines (drop from text)))
@@ -25,69 +19,72 @@ Inv-loop text from at₀ total₀ at total = (length text ≤ 262144) × (total 
 abbrev μ-loop : tie.MeasureT-loop
 μ-loop text from at₀ total₀ at total = length text - at
 
--- src/lines.rt:29:5
 loop-holds : tie.Need-loop-holds Inv-loop μ-loop
 loop-holds c = (c .before .pre, omega arith, zero-add _)
 
--- src/lines.rt:30:13
 line-at-requires : tie.Need-line-at-requires Inv-loop μ-loop
 line-at-requires c κs = (c .loop-test .taken, c .before .loop .inv .0)
 
--- src/lines.rt:32:25
 sub-item-of : tie.Need-sub-item-of Inv-loop μ-loop
 sub-item-of c = c .line-at .ensures .order
 
--- src/lines.rt:32:25
 part-item-of-start : tie.Need-part-item-of-start Inv-loop μ-loop
 part-item-of-start c = c .line-at .ensures .order
 
--- src/lines.rt:32:25
 part-item-of-end : tie.Need-part-item-of-end Inv-loop μ-loop
 part-item-of-end c = c .line-at .ensures .end
 
--- src/lines.rt:32:13
 item-of-requires : tie.Need-item-of-requires Inv-loop μ-loop
-item-of-requires c κs = let h = piece-short _ _ _ (c .before .line-at .ensures) in omega (arith, h, c .before .before .before .loop .inv .0)
+item-of-requires c κs =
+    let h = piece-short _ _ _ (c .before .line-at .ensures) in
+    omega (arith, h, c .before .before .before .loop .inv .0)
 
--- src/lines.rt:33:12
 is-named-requires : tie.Need-is-named-requires Inv-loop μ-loop
 is-named-requires c κs = search needs
 
--- src/lines.rt:34:13
 returns : tie.Need-returns Inv-loop μ-loop
-returns c = let l = c .before .before .before .before .before .before .loop in let z = section-named _ _ _ (c .before .before .before .before .line-at .ensures) (ap isNamed (sym (c .before .before .item-of .ensures)) ∙ sym (c .before .is-named .ensures) ∙ c .if1 .taken) in omega (arith, z, l .inv .2)
+returns c =
+    let l = c .before .before .before .before .before .before .loop in
+    let z = section-named _ _ _ (c .before .before .before .before .line-at .ensures) (ap isNamed (sym (c .before .before .item-of .ensures)) ∙ sym (c .before .is-named .ensures) ∙ c .if1 .taken) in
+    omega (arith, z, l .inv .2)
 
--- src/lines.rt:36:33
 sub-size-of : tie.Need-sub-size-of Inv-loop μ-loop
 sub-size-of c = c .before .before .before .before .line-at .ensures .order
 
--- src/lines.rt:36:33
 part-size-of-start : tie.Need-part-size-of-start Inv-loop μ-loop
 part-size-of-start c = c .before .before .before .before .line-at .ensures .order
 
--- src/lines.rt:36:33
 part-size-of-end : tie.Need-part-size-of-end Inv-loop μ-loop
 part-size-of-end c = c .before .before .before .before .line-at .ensures .end
 
--- src/lines.rt:36:25
 size-of-requires : tie.Need-size-of-requires Inv-loop μ-loop
-size-of-requires c κs = let h = piece-short _ _ _ (c .before .before .before .before .before .line-at .ensures) in omega (arith, h, c .before .before .before .before .before .before .before .loop .inv .0)
+size-of-requires c κs =
+    let h = piece-short _ _ _ (c .before .before .before .before .before .line-at .ensures) in
+    omega (arith, h, c .before .before .before .before .before .before .before .loop .inv .0)
 
--- src/lines.rt:36:17
 add-total : tie.Need-add-total Inv-loop μ-loop
-add-total c = let l = c .before .before .before .before .before .before .before .before .loop in omega (arith, l .inv .0, l .inv .1, c .size-of .ensures .1, c .before .before .before .before .before .before .before .loop-test .taken)
+add-total c =
+    let l = c .before .before .before .before .before .before .before .before .loop in
+    omega (arith, l .inv .0, l .inv .1, c .size-of .ensures .1, c .before .before .before .before .before .before .before .loop-test .taken)
 
--- src/lines.rt:29:5
 loop-less : tie.Need-loop-less Inv-loop μ-loop
 loop-less c = omega (arith, c .before .before .before .before .before .before .line-at .ensures .next, c .before .before .before .before .before .before .before .loop-test .taken)
 
--- src/lines.rt:29:5
 loop-again : tie.Need-loop-again Inv-loop μ-loop
-loop-again c = let l = c .before .before .before .before .before .before .before .before .loop in let p = c .before .before .before .before .before .before .line-at in let i = c .before .before .before .before .item-of in let t = c .before .before .before .before .before .before .before .before .before .before .args .text .now in let k = ap (λ (x : Item). length (said (take (p .result .from - l .at) (drop (l .at) t)) 0 x)) (i .ensures) in let m = section-more _ _ _ (p .ensures) (ap isNamed (sym (i .ensures)) ∙ sym (c .before .before .before .is-named .ensures) ∙ c .before .before .if1 .left) in (l .inv .0, omega (arith, l .inv .1, c .size-of .ensures .1, p .ensures .next), omega (arith, l .inv .2, m, c .size-of .ensures .0 ∙ k))
+loop-again c =
+    let l = c .before .before .before .before .before .before .before .before .loop in
+    let p = c .before .before .before .before .before .before .line-at in
+    let i = c .before .before .before .before .item-of in
+    let t = c .before .before .before .before .before .before .before .before .before .before .args .text .now in
+    let k = ap (λ (x : Item). length (said (take (p .result .from - l .at) (drop (l .at) t)) 0 x)) (i .ensures) in
+    let m = section-more _ _ _ (p .ensures) (ap isNamed (sym (i .ensures)) ∙ sym (c .before .before .before .is-named .ensures) ∙ c .before .before .if1 .left) in
+    (l .inv .0, omega (arith, l .inv .1, c .size-of .ensures .1, p .ensures .next), omega (arith, l .inv .2, m, c .size-of .ensures .0 ∙ k))
 
--- src/lines.rt:23:1
 returns-2 : tie.Need-returns-2 Inv-loop μ-loop
-returns-2 c = let l = c .before .loop in let z = section-end (c .before .before .before .args .text .now) (l .at) (c .loop-test .left) in omega (arith, z, l .inv .2)
+returns-2 c =
+    let l = c .before .loop in
+    let z = section-end (c .before .before .before .args .text .now) (l .at) (c .loop-test .left) in
+    omega (arith, z, l .inv .2)
 
 pub section-from-spec : {M : Type 1} → statement M
 section-from-spec =

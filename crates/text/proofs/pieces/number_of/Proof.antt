@@ -1,20 +1,16 @@
+-- The digits from place i on, behind the number so far, say what the word says.
 use mathlib.Core.Bool.{not}
-use mathlib.Core.Path.{_≡_, refl, sym, ap, subst, _∙_}
-use Prim.Native.Nat.{ℕ, _+_, _-_, _≤_, _<_}
+use mathlib.Core.Path.{sym, ap, subst, _∙_}
+use Prim.Native.Nat.{ℕ, _+_, _-_}
 use native.Mathlib.Omega.{arith}
 use borrow.Author.Needs.{needs}
-use borrow.Author.Tests.{not-true, not-false, ltb-true, ltb-false, leb-true, leb-false, eqb-true, eqb-false, eq-eqb, ne-eqb, le-leb, lt-leb, lt-ltb, le-ltb}
+use borrow.Author.Tests.{not-true, not-false}
 use lib.Dec.{T}
 use lib.ListN.{length}
-use Rattle.printing.specs.Decimal.{isDigit}
 use Rattle.text.proofs.Words.{none-short}
 use Rattle.text.proofs.Numbers.{value-not, number-some, Reading, reading-start, reading-end, reading-not, reading-large, reading-more, digit-low, digit-high}
 use Rattle.text.proofs.pieces.number_of.Statement.{statement}
 use Rattle.text.proofs.pieces.number_of.Tie as tie
-use Rattle.text.proofs.pieces.number_of.Reads as reads
-use Rattle.text.proofs.pieces.number_of.Lts as lts
-use Rattle.text.proofs.pieces.is_digit.Reads as is-digit-reads
-use Rattle.text.proofs.pieces.with_digit.Reads as with-digit-reads
 
 abbrev Inv-loop : tie.InvT-loop
 Inv-loop word n₀ i₀ n i = Reading word n i
@@ -22,47 +18,49 @@ Inv-loop word n₀ i₀ n i = Reading word n i
 abbrev μ-loop : tie.MeasureT-loop
 μ-loop word n₀ i₀ n i = length word - i
 
--- src/pieces.rt:95:9
 returns : tie.Need-returns Inv-loop μ-loop
-returns c = let w = c .before .before .args .word .now in sym (value-not w (λ t. subst T (ap not (none-short w (c .if1 .taken))) (number-some w t)))
+returns c =
+    let w = c .before .before .args .word .now in
+    sym (value-not w (λ t. subst T (ap not (none-short w (c .if1 .taken))) (number-some w t)))
 
--- src/pieces.rt:99:5
 loop-holds : tie.Need-loop-holds Inv-loop μ-loop
 loop-holds c = reading-start _ (omega arith)
 
--- src/pieces.rt:100:17
 shared-slice-read-b : tie.Need-shared-slice-read-b Inv-loop μ-loop
 shared-slice-read-b c = omega (arith, c .before .loop-test .taken)
 
--- src/pieces.rt:101:13
 is-digit-requires : tie.Need-is-digit-requires Inv-loop μ-loop
 is-digit-requires c κs = search needs
 
--- src/pieces.rt:102:13
 returns-2 : tie.Need-returns-2 Inv-loop μ-loop
-returns-2 c = let l = c .before .before .before .before .loop in reading-not _ _ _ (l .inv) (c .before .before .before .loop-test .taken) (sym (c .before .is-digit .ensures) ∙ not-true _ (c .if2 .taken))
+returns-2 c =
+    let l = c .before .before .before .before .loop in
+    reading-not _ _ _ (l .inv) (c .before .before .before .loop-test .taken) (sym (c .before .is-digit .ensures) ∙ not-true _ (c .if2 .taken))
 
--- src/pieces.rt:104:9
 with-digit-requires : tie.Need-with-digit-requires Inv-loop μ-loop
-with-digit-requires c κs = let l = c .before .before .before .before .loop in let t = subst T (sym (sym (c .before .is-digit .ensures) ∙ not-false _ (c .if2 .left))) tt in (l .inv .small, digit-low _ t, digit-high _ t)
+with-digit-requires c κs =
+    let l = c .before .before .before .before .loop in
+    let t = subst T (sym (sym (c .before .is-digit .ensures) ∙ not-false _ (c .if2 .left))) tt in
+    (l .inv .small, digit-low _ t, digit-high _ t)
 
--- src/pieces.rt:106:13
 returns-3 : tie.Need-returns-3 Inv-loop μ-loop
-returns-3 c = let l = c .before .before .before .before .before .before .loop in reading-large _ _ _ (l .inv) (c .before .before .before .before .before .loop-test .taken) (omega (arith, c .before .with-digit .ensures, c .if3 .taken))
+returns-3 c =
+    let l = c .before .before .before .before .before .before .loop in
+    reading-large _ _ _ (l .inv) (c .before .before .before .before .before .loop-test .taken) (omega (arith, c .before .with-digit .ensures, c .if3 .taken))
 
--- src/pieces.rt:108:13
 add-i : tie.Need-add-i Inv-loop μ-loop
 add-i c = omega (arith, c .before .before .before .before .before .loop-test .taken)
 
--- src/pieces.rt:99:5
 loop-less : tie.Need-loop-less Inv-loop μ-loop
 loop-less c = omega (arith, c .before .before .before .before .before .loop-test .taken)
 
--- src/pieces.rt:99:5
 loop-again : tie.Need-loop-again Inv-loop μ-loop
-loop-again c = let w = c .before .before .before .before .before .before .before .before .before .args .word .now in let l = c .before .before .before .before .before .before .loop in let e = c .before .with-digit .ensures in subst (λ (n : ℕ). Reading w n (l .i + 1)) (sym e) (reading-more w _ _ (l .inv) (c .before .before .before .before .before .loop-test .taken) (sym (c .before .before .before .is-digit .ensures) ∙ not-false _ (c .before .before .if2 .left)) (omega (arith, c .if3 .left)))
+loop-again c =
+    let w = c .before .before .before .before .before .before .before .before .before .args .word .now in
+    let l = c .before .before .before .before .before .before .loop in
+    let e = c .before .with-digit .ensures in
+    subst (λ (n : ℕ). Reading w n (l .i + 1)) (sym e) (reading-more w _ _ (l .inv) (c .before .before .before .before .before .loop-test .taken) (sym (c .before .before .before .is-digit .ensures) ∙ not-false _ (c .before .before .if2 .left)) (omega (arith, c .if3 .left)))
 
--- src/pieces.rt:91:1
 returns-4 : tie.Need-returns-4 Inv-loop μ-loop
 returns-4 c = let l = c .before .loop in reading-end _ _ _ (l .inv) (c .loop-test .left)
 

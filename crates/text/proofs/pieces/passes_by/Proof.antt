@@ -1,31 +1,24 @@
+-- By the kind of byte.
 use mathlib.Core.Path.{refl}
 use borrow.Author.Needs.{needs}
 use Rattle.text.proofs.pieces.passes_by.Statement.{statement}
 use Rattle.text.proofs.pieces.passes_by.Tie as tie
-use Rattle.text.proofs.pieces.passes_by.Reads as reads
-use Rattle.text.proofs.pieces.passes_by.Lts as lts
 
--- src/pieces.rt:26:25
 enum-told : tie.Need-enum-told
 enum-told c = search needs
 
--- src/pieces.rt:27:28
 enum-told-2 : tie.Need-enum-told-2
 enum-told-2 c = search needs
 
--- src/pieces.rt:28:27
 enum-told-3 : tie.Need-enum-told-3
 enum-told-3 c = search needs
 
--- src/pieces.rt:22:1
 returns : tie.Need-returns
 returns c = rw (c .enum-told .given .1) refl
 
--- src/pieces.rt:22:1
 returns-2 : tie.Need-returns-2
 returns-2 c = rw (c .enum-told2 .given .1) refl
 
--- src/pieces.rt:22:1
 returns-3 : tie.Need-returns-3
 returns-3 c = rw (c .enum-told3 .given .1) refl
 

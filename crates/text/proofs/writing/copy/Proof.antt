@@ -1,4 +1,5 @@
-use mathlib.Core.Path.{_≡_, refl, sym, ap, subst, _∙_}
+-- The first i bytes stand from place at on.
+use mathlib.Core.Path.{_≡_, refl, subst, _∙_}
 use Prim.Native.Nat.{ℕ, _+_, _-_, _≤_}
 use native.Mathlib.Omega.{arith}
 use borrow.Author.Needs.{needs}
@@ -8,8 +9,6 @@ use Rattle.printing.specs.Writes.{Writes}
 use Rattle.printing.proofs.Stores.{writes-next}
 use Rattle.text.proofs.writing.copy.Statement.{statement}
 use Rattle.text.proofs.writing.copy.Tie as tie
-use Rattle.text.proofs.writing.copy.Reads as reads
-use Rattle.text.proofs.writing.copy.Lts as lts
 
 abbrev Inv-loop : tie.InvT-loop
 Inv-loop out₀ at src len i₀ out i = (i ≤ len) × (len ≡ length src) × (at + len ≤ length out₀) × (length out ≡ length out₀) × Writes at (take i src) out₀ (at + i) out
@@ -17,45 +16,43 @@ Inv-loop out₀ at src len i₀ out i = (i ≤ len) × (len ≡ length src) × (
 abbrev μ-loop : tie.MeasureT-loop
 μ-loop out₀ at src len i₀ out i = len - i
 
--- src/writing.rt:22:5
 loop-holds : tie.Need-loop-holds Inv-loop μ-loop
 loop-holds c = (omega arith, refl, omega arith, refl, record { room = omega arith; answer = refl; bytes = refl })
 
--- src/writing.rt:23:23
 shared-slice-read-out : tie.Need-shared-slice-read-out Inv-loop μ-loop
 shared-slice-read-out c = search needs
 
--- src/writing.rt:23:13
 add-out : tie.Need-add-out Inv-loop μ-loop
 add-out c = search needs
 
--- src/writing.rt:23:9
 slice-write-out : tie.Need-slice-write-out Inv-loop μ-loop
 slice-write-out c = search needs
 
--- src/writing.rt:22:9
 add-i : tie.Need-add-i Inv-loop μ-loop
 add-i c = search needs
 
--- src/writing.rt:22:5
 loop-less : tie.Need-loop-less Inv-loop μ-loop
 loop-less c = search needs
 
--- src/writing.rt:22:5
 loop-again : tie.Need-loop-again Inv-loop μ-loop
-loop-again c = let l = c .before .before .loop in let a = c .before .before .before .args in (omega arith, refl, omega arith, length-set (l .out) (a .at + l .i) _ ∙ l .inv .3, writes-next (a .at) (l .i) (a .src .now) (a .out .now) (l .out) (omega arith) (omega arith) (l .inv .4))
+loop-again c =
+    let l = c .before .before .loop in
+    let a = c .before .before .before .args in
+    (omega arith, refl, omega arith, length-set (l .out) (a .at + l .i) _ ∙ l .inv .3, writes-next (a .at) (l .i) (a .src .now) (a .out .now) (l .out) (omega arith) (omega arith) (l .inv .4))
 
--- src/writing.rt:25:5
 add-result : tie.Need-add-result Inv-loop μ-loop
 add-result c = search needs
 
--- src/writing.rt:17:1
 same-length : tie.Need-same-length Inv-loop μ-loop
 same-length c = c .before .loop .inv .3
 
--- src/writing.rt:17:1
 returns : tie.Need-returns Inv-loop μ-loop
-returns c = let l = c .before .loop in let a = c .before .before .args in let done : l .i ≡ length (a .src .now) = omega arith in let w = subst (λ (n : ℕ). Writes (a .at) (take n (a .src .now)) (a .out .now) (a .at + n) (l .out)) done (l .inv .4) in subst (λ x. Writes (a .at) x (a .out .now) (a .at + length (a .src .now)) (l .out)) (take-length (a .src .now)) w
+returns c =
+    let l = c .before .loop in
+    let a = c .before .before .args in
+    let done : l .i ≡ length (a .src .now) = omega arith in
+    let w = subst (λ (n : ℕ). Writes (a .at) (take n (a .src .now)) (a .out .now) (a .at + n) (l .out)) done (l .inv .4) in
+    subst (λ x. Writes (a .at) x (a .out .now) (a .at + length (a .src .now)) (l .out)) (take-length (a .src .now)) w
 
 pub copy-spec : {M : Type 1} → statement M
 copy-spec =
