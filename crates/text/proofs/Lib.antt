@@ -1,0 +1,10 @@
+pub mod Runs
+pub mod Words
+pub mod FirstLine
+pub mod Numbers
+pub mod Args
+pub mod Meant
+pub mod Bytes
+pub mod Stored
+pub mod Whole
+pub mod Cases

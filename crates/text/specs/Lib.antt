@@ -1,0 +1,5 @@
+pub mod Pieces
+pub mod Items
+pub mod Meaning
+pub mod Parts
+pub mod Cases
