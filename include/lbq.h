@@ -126,11 +126,11 @@ typedef struct {
 typedef struct {
     uint64_t mask;
     uint32_t number, count, lowest;
-} lbq_views;
+} lbq_findings;
 
 /* The layout that the library reads and writes: where a compiler has another, this line is an error. */
 typedef char lbq_layout[sizeof(lbq_desk) == 8 && sizeof(lbq_block) == 8 && sizeof(lbq_head) == 144 &&
-                                sizeof(lbq_answer) == 8 && sizeof(lbq_checked) == 12 && sizeof(lbq_views) == 24
+                                sizeof(lbq_answer) == 8 && sizeof(lbq_checked) == 12 && sizeof(lbq_findings) == 24
                             ? 1
                             : -1];
 
@@ -155,7 +155,7 @@ lbq_checked lbq_check(const lbq_head *head, const lbq_block *table, size_t table
                       size_t entries_len);
 
 /* Says which blocks an idle desk could take from. It writes nothing, and reads no entry. */
-lbq_views lbq_survey(const lbq_head *head, const lbq_block *table, size_t table_len, const uint32_t *entries,
+lbq_findings lbq_survey(const lbq_head *head, const lbq_block *table, size_t table_len, const uint32_t *entries,
                      size_t entries_len);
 
 /* The steps by their names. */

@@ -1,4 +1,4 @@
--- When a step is refused: the tests in the order of the refusals' numbers, over what they read. Line and book share them.
+-- When a step is refused: the tests in the order that the paper asks for, over what they read. Line and book share them.
 use mathlib.Core.Bool.{Bool, false, not, _&&_}
 use mathlib.Core.List.{List, [], _∷_}
 use Prim.Native.Nat.{ℕ, _+_, _-_}

@@ -76,7 +76,7 @@ owned = behind (claim 0 ⇒ Refused Lost 0 ∷ [])
 abbrev refilled : Run
 refilled = behind (put 3 ⇒ Put 3 ∷ get ⇒ Got 3 ∷ put 4 ⇒ Put 4 ∷ claim 0 ⇒ Refused Lost 0 ∷ [])
 
--- the tests in the order of the refusals' numbers; numbers not named are ignored
+-- the tests in the paper's order; numbers not named are ignored
 abbrev tested : Run
 tested =
     from middle (

@@ -17,7 +17,7 @@ use words::Refusal;
 ghost use mathlib.Core.Path.{_≡_};
 ghost use Prim.Native.Nat.{_+_, _-_, _*_, _/_, _%_, _≤_, _<_};
 ghost use Rattle.book.specs.Choice.{_<ᵇ_, _≡ᵇ_};
-ghost use Rattle.book.specs.Sizes.{sized, isLabel, isOrder};
+ghost use Rattle.book.specs.Sizes.{highestLabel, sized, isLabel, isOrder};
 ghost use Rattle.book.specs.Verdicts.{startable, placeable};
 ghost use Rattle.line.specs.Line.{sizeOf, isBusy, roomOf, movesOn, putStep, orderStep, getStep};
 ghost use Rattle.byvalue.specs.Lent.{lineOf};
@@ -32,10 +32,12 @@ fn narrow(x: u32) -> u16
     x as u16
 }
 
+const HIGHEST_LABEL: u32 = 999999;
+
 fn is_label(a: u32) -> bool
     ensures { λ r. ⌜ r ≡ isLabel a ⌝ }
 {
-    a <= 999999
+    a <= HIGHEST_LABEL
 }
 
 fn is_order(a: u32, b: u32) -> bool
@@ -93,7 +95,7 @@ fn may_start(nb: u32, k: u32, next: u32, old: Block) -> Verdict
     Verdict::Takes
 }
 
-// May label a be put: the tests in the order of the refusals' numbers. `current` is the record of turn
+// May label a be put: the tests in the paper's order. `current` is the record of turn
 // P's block, `old` that of the block in which the next turn stands.
 fn may_put(nb: u32, ne: u32, p: u32, k: u32, current: Block, old: Block, a: u32) -> Verdict
     requires { ⌜ (1 ≤ nb) × (p < 65536 * 64) ⌝ }
@@ -144,7 +146,7 @@ fn room_for(nb: u32, ne: u32, p: u32, here: usize, next: usize, current: Block) 
 
 // How many labels an order has placed that is stopped at `label`.
 fn placed(first: u32, label: u32) -> u32
-    requires { ⌜ (first ≤ label) × (label ≤ 999999) ⌝ }
+    requires { ⌜ (first ≤ label) × (label ≤ highestLabel) ⌝ }
     ensures { λ r. ⌜ r ≡ label - first ⌝ }
 {
     label - first

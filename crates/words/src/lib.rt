@@ -8,7 +8,7 @@ ghost use mathlib.Core.Path.{_≡_};
 ghost use Rattle.words.specs.Promises.{Numbered, Valued, Worded};
 ghost use Rattle.words.specs.Words.{Refused};
 
-// The paper's table of refusals, in the order of its numbers.
+// The paper's table of refusals, in its order.
 pub enum Refusal {
     Unfit,
     Damaged,

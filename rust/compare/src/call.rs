@@ -3,7 +3,7 @@
 use crate::memory::Memory;
 use lbq::{Answer as Word, Fault, Refusal, Sizes, Step, Stopped};
 use model::line;
-use model::records::{Answer, Checked, Views};
+use model::records::{Answer, Checked, Findings};
 use model::words::word;
 use std::fmt;
 
@@ -30,7 +30,7 @@ pub enum Said {
     /// To the check.
     Checked(Checked),
     /// To the survey.
-    Views(Views),
+    Findings(Findings),
 }
 
 impl Said {
@@ -40,7 +40,7 @@ impl Said {
         match self {
             Self::Answer(Answer { number, .. })
             | Self::Checked(Checked { number, .. })
-            | Self::Views(Views { number, .. }) => number,
+            | Self::Findings(Findings { number, .. }) => number,
         }
     }
 }
@@ -50,7 +50,7 @@ impl fmt::Display for Said {
         match self {
             Self::Answer(Answer { number, value }) => write!(f, "number {number} value {value}"),
             Self::Checked(Checked { number, place, rule }) => write!(f, "number {number} place {place} rule {rule}"),
-            Self::Views(Views { mask, number, count, lowest }) => {
+            Self::Findings(Findings { mask, number, count, lowest }) => {
                 write!(f, "number {number} mask {mask:#x} count {count} lowest {lowest}")
             }
         }
@@ -114,9 +114,9 @@ impl Call {
                     Said::Checked(Checked { number, place, rule })
                 }
                 Self::Survey => {
-                    let lbq::raw::Views { mask, number, count, lowest } =
+                    let lbq::raw::Findings { mask, number, count, lowest } =
                         lbq::raw::lbq_survey(head, table, records, entries, labels);
-                    Said::Views(Views { mask, number, count, lowest })
+                    Said::Findings(Findings { mask, number, count, lowest })
                 }
             }
         }
@@ -145,11 +145,11 @@ impl Call {
                     Checked { number: 2, place: place.number(), rule: rule.number() }
                 }
             }),
-            Self::Survey => Said::Views(match line.survey() {
+            Self::Survey => Said::Findings(match line.survey() {
                 Ok(lbq::Survey { mask, count, lowest }) => {
-                    Views { mask, number: 0, count, lowest: lowest.unwrap_or(64) }
+                    Findings { mask, number: 0, count, lowest: lowest.unwrap_or(64) }
                 }
-                Err(refusal) => Views { mask: 0, number: refusal.number(), count: 0, lowest: 64 },
+                Err(refusal) => Findings { mask: 0, number: refusal.number(), count: 0, lowest: 64 },
             }),
         }
     }
@@ -162,7 +162,7 @@ impl Call {
             Self::Step(code, a, b) => Said::Answer(line::step(head, table, entries, code, a, b)),
             Self::Order(first, last) => Said::Answer(line::order(head, table, entries, first, last)),
             Self::Check => Said::Checked(line::check(head, table, entries.len())),
-            Self::Survey => Said::Views(line::survey(head, table, entries.len())),
+            Self::Survey => Said::Findings(line::survey(head, table, entries.len())),
         }
     }
 }

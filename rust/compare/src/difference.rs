@@ -1,6 +1,6 @@
 //! What is said of a difference.
 
-use crate::mood::Mood;
+use crate::run_kind::RunKind;
 use std::fmt;
 
 /// The first difference of a run, with all that is needed to see it again.
@@ -8,8 +8,8 @@ use std::fmt;
 pub struct Difference {
     /// The run's seed.
     pub seed: u64,
-    /// The run's mood.
-    pub mood: Mood,
+    /// The run's kind.
+    pub kind: RunKind,
     /// The call's number in the run, from 1.
     pub step: u64,
     /// The call.
@@ -24,7 +24,7 @@ pub struct Difference {
 
 impl fmt::Display for Difference {
     fn fmt(&self, f: &mut fmt::Formatter<'_>) -> fmt::Result {
-        writeln!(f, "difference: seed {} ({:?}), step {}: {}", self.seed, self.mood, self.step, self.call)?;
+        writeln!(f, "difference: seed {} ({:?}), step {}: {}", self.seed, self.kind, self.step, self.call)?;
         for (who, said) in &self.said {
             writeln!(f, "  {who}: {said}")?;
         }

@@ -1,6 +1,6 @@
 //! The proved library held against the model.
 //!
-//! A run starts from a seed. It draws a [`Mood`], makes a memory with guard bytes around the three lent parts, and then
+//! A run starts from a seed. It draws a [`RunKind`], makes a memory with guard bytes around the three lent parts, and then
 //! makes calls. Each call is made twice, on the library's memory and on the model's, and then the answers are compared
 //! and the whole memories, guard bytes and all. In a run from opening the book answers too, and the memory is compared
 //! with the one that the book tells.
@@ -8,17 +8,17 @@
 mod call;
 mod difference;
 mod memory;
-mod mood;
 mod random;
 mod run;
+mod run_kind;
 mod tally;
 
 pub use call::{Call, Said, Way};
 pub use difference::Difference;
 pub use memory::Memory;
-pub use mood::Mood;
 pub use random::Random;
 pub use run::Run;
+pub use run_kind::RunKind;
 pub use tally::Tally;
 
 /// Plays one run and adds what was met to the tally. The seed after this one is [`next_seed`].
@@ -28,9 +28,9 @@ pub use tally::Tally;
 /// The first difference.
 pub fn play(seed: u64, tally: &mut Tally) -> Result<(), Box<Difference>> {
     let mut random = Random::new(seed);
-    let mood = mood::drawn(&mut random);
-    tally.run(mood);
-    mood::play(mood, seed, random, tally)
+    let kind = run_kind::drawn(&mut random);
+    tally.run(kind);
+    run_kind::play(kind, seed, random, tally)
 }
 
 /// The seed of the run after the one of this seed.

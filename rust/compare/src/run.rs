@@ -3,8 +3,8 @@
 use crate::call::{Call, Said, Way};
 use crate::difference::Difference;
 use crate::memory::Memory;
-use crate::mood::Mood;
 use crate::random::Random;
+use crate::run_kind::RunKind;
 use crate::tally::Tally;
 use model::book::Book;
 use model::records::{Answer, Block, Head};
@@ -18,7 +18,7 @@ const KEPT: usize = 12;
 /// A run under way.
 pub struct Run<'t> {
     seed: u64,
-    mood: Mood,
+    kind: RunKind,
     step: u64,
     library: Memory,
     model: Memory,
@@ -33,10 +33,10 @@ type Outcome<T> = Result<T, Box<Difference>>;
 
 impl<'t> Run<'t> {
     /// A run on this memory. There is no book before the first opening.
-    pub fn new(seed: u64, mood: Mood, memory: Memory, tally: &'t mut Tally) -> Self {
+    pub fn new(seed: u64, kind: RunKind, memory: Memory, tally: &'t mut Tally) -> Self {
         let model = memory.clone();
         let (told, sample, recent) = (None, Random::new(seed), VecDeque::with_capacity(KEPT));
-        Self { seed, mood, step: 0, library: memory, model, told, sample, recent, tally }
+        Self { seed, kind, step: 0, library: memory, model, told, sample, recent, tally }
     }
 
     /// Makes one call on all, and compares.
@@ -55,7 +55,7 @@ impl<'t> Run<'t> {
         }
         self.by_rules(call, said)?;
         self.by_book(call, said)?;
-        self.tally.add(self.mood, call, said);
+        self.tally.add(self.kind, call, said);
         if self.recent.len() == KEPT {
             self.recent.pop_front();
         }
@@ -135,7 +135,7 @@ impl<'t> Run<'t> {
             Call::Open(..) => said,
             Call::Step(code, a, b) => Said::Answer(told.step(code, a, b)),
             Call::Order(first, last) => Said::Answer(told.step(2, first, last)),
-            Call::Survey => Said::Views(told.book.survey()),
+            Call::Survey => Said::Findings(told.book.survey()),
             Call::Check => Said::Checked(model::records::Checked { number: 0, place: 0, rule: 0 }),
         };
         self.tally.booked += 1;
@@ -156,7 +156,7 @@ impl<'t> Run<'t> {
     fn difference(&self, call: Call, said: &[(&'static str, Said)], memory: Vec<String>) -> Box<Difference> {
         Box::new(Difference {
             seed: self.seed,
-            mood: self.mood,
+            kind: self.kind,
             step: self.step,
             call: call.to_string(),
             said: said.iter().map(|(who, said)| (*who, said.to_string())).collect(),

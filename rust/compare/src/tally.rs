@@ -1,7 +1,7 @@
-//! What was met, mood by mood: how often each call was made and what was said to it.
+//! What was met, kind by kind: how often each call was made and what was said to it.
 
 use crate::call::{Call, Said};
-use crate::mood::Mood;
+use crate::run_kind::RunKind;
 use model::words::word;
 use std::collections::BTreeMap;
 use std::fmt;
@@ -15,7 +15,7 @@ pub struct Tally {
     pub booked: u64,
     /// How often the whole memory was compared with the one that the book tells.
     pub told: u64,
-    moods: BTreeMap<Mood, Met>,
+    kinds: BTreeMap<RunKind, Met>,
 }
 
 #[derive(Clone, Debug, Default)]
@@ -111,13 +111,13 @@ fn in_a_word(call: Call, said: Said) -> &'static str {
 }
 
 impl Tally {
-    pub(crate) fn run(&mut self, mood: Mood) {
-        self.moods.entry(mood).or_default().runs += 1;
+    pub(crate) fn run(&mut self, kind: RunKind) {
+        self.kinds.entry(kind).or_default().runs += 1;
     }
 
-    pub(crate) fn add(&mut self, mood: Mood, call: Call, said: Said) {
+    pub(crate) fn add(&mut self, kind: RunKind, call: Call, said: Said) {
         self.steps += 1;
-        let met = self.moods.entry(mood).or_default();
+        let met = self.kinds.entry(kind).or_default();
         met.calls += 1;
         *met.said.entry((Asked::of(call), in_a_word(call, said))).or_default() += 1;
     }
@@ -126,14 +126,14 @@ impl Tally {
     #[must_use]
     pub fn missing(&self) -> Vec<String> {
         let all = CAN_BE_SAID.iter().flat_map(|&(asked, words)| words.iter().map(move |&word| (asked, word)));
-        let met = |key| self.moods.values().any(|met| met.said.contains_key(&key));
+        let met = |key| self.kinds.values().any(|met| met.said.contains_key(&key));
         all.filter(|&key| !met(key)).map(|(asked, word)| format!("{asked:?}: {word}")).collect()
     }
 
     /// The rows of the table: all that can be said, and whatever else was said.
     fn rows(&self) -> Vec<(u32, String)> {
         let expected = CAN_BE_SAID.iter().flat_map(|(asked, words)| words.iter().map(|word| asked.row(word)));
-        let said = self.moods.values().flat_map(|met| met.said.keys().map(|(asked, word)| asked.row(word)));
+        let said = self.kinds.values().flat_map(|met| met.said.keys().map(|(asked, word)| asked.row(word)));
         let mut rows = Vec::new();
         for row in expected.chain(said) {
             if !rows.contains(&row) {
@@ -151,20 +151,20 @@ impl Met {
     }
 }
 
-/// A table: a column for each mood and one for all, then the runs, the calls, and a row for each word.
+/// A table: a column for each kind and one for all, then the runs, the calls, and a row for each word.
 impl fmt::Display for Tally {
     fn fmt(&self, f: &mut fmt::Formatter<'_>) -> fmt::Result {
         let line = |f: &mut fmt::Formatter<'_>, name: &str, count: &dyn Fn(&Met) -> u64| {
             write!(f, "{name:<16}")?;
-            let counts: Vec<u64> = self.moods.values().map(count).collect();
+            let counts: Vec<u64> = self.kinds.values().map(count).collect();
             for count in &counts {
                 write!(f, " {count:>9}")?;
             }
             writeln!(f, " {:>10}", counts.iter().sum::<u64>())
         };
         write!(f, "{:<16}", "")?;
-        for mood in self.moods.keys() {
-            write!(f, " {:>9}", format!("{mood:?}"))?;
+        for kind in self.kinds.keys() {
+            write!(f, " {:>9}", format!("{kind:?}"))?;
         }
         writeln!(f, " {:>10}", "all")?;
         line(f, "runs", &|met| met.runs)?;

@@ -1,14 +1,14 @@
 //! What the paper itself says of a line, played on library, model and book, with the answers written out here.
 
-use compare::{Call, Memory, Mood, Random, Run, Said, Tally};
-use model::records::{Block, Checked, Desk, Head, Views};
+use compare::{Call, Memory, Random, Run, RunKind, Said, Tally};
+use model::records::{Block, Checked, Desk, Findings, Head};
 use model::words::word;
 
 /// A line of these sizes for one test, opened on memory that was full of something else.
 fn with_line(nb: u32, ne: u32, t: u32, test: impl FnOnce(&mut Run)) {
     let memory = Memory::new(&mut Random::new(9), nb as usize, (nb * ne) as usize);
     let mut tally = Tally::default();
-    let mut run = Run::new(9, Mood::Legal, memory, &mut tally);
+    let mut run = Run::new(9, RunKind::Legal, memory, &mut tally);
     said(&mut run, Call::Open(nb, ne, t));
     test(&mut run);
 }
@@ -104,7 +104,7 @@ fn sizes() {
     let opens = |nb: u32, ne: u32, t: u32, records: usize, labels: usize| {
         let mut tally = Tally::default();
         let memory = Memory::new(&mut Random::new(1), records, labels);
-        let mut run = Run::new(1, Mood::Unfit, memory, &mut tally);
+        let mut run = Run::new(1, RunKind::Unfit, memory, &mut tally);
         said(&mut run, Call::Open(nb, ne, t)).number()
     };
     for (nb, ne, t, number) in [
@@ -360,19 +360,19 @@ fn only_rule_1() {
 
 #[test]
 fn the_survey() {
-    let views = |mask, count, lowest| Said::Views(Views { mask, number: 0, count, lowest });
+    let findings = |mask, count, lowest| Said::Findings(Findings { mask, number: 0, count, lowest });
     with_line(4, 3, 4, |run| {
-        assert_eq!(said(run, Call::Survey), views(0, 0, 64));
+        assert_eq!(said(run, Call::Survey), findings(0, 0, 64));
         line_to_damage(run);
         // Turn 4 in block 0 has two labels left, turn 5 in block 1 one.
-        assert_eq!(said(run, Call::Survey), views(0b11, 2, 0));
+        assert_eq!(said(run, Call::Survey), findings(0b11, 2, 0));
         plays(run, &[(claim(2), "CLAIMED 1"), (fetch(2), "TOOK 14"), (fetch(2), "STAGE 0"), (look(3, 0), "SEEN 2")]);
         plays(run, &[(claim(3), "CLAIMED 2"), (fetch(3), "TOOK 15")]);
-        assert_eq!(said(run, Call::Survey), views(0b10, 1, 1));
+        assert_eq!(said(run, Call::Survey), findings(0b10, 1, 1));
     });
     with_line(64, 1, 1, |run| {
         plays(run, &[(order(1, 64), "WHOLE 64")]);
-        assert_eq!(said(run, Call::Survey), views(u64::MAX - 1, 63, 1));
+        assert_eq!(said(run, Call::Survey), findings(u64::MAX - 1, 63, 1));
     });
 }
 

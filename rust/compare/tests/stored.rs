@@ -1,6 +1,6 @@
 //! The stored schedules, from their bytes, played on library, model and book: the lines are the stored ones.
 
-use compare::{Call, Memory, Mood, Random, Run, Tally};
+use compare::{Call, Memory, Random, Run, RunKind, Tally};
 use lbq::{Schedule, Sizes};
 use model::words::word;
 use std::fmt::Write;
@@ -12,7 +12,7 @@ fn played(bytes: &[u8]) -> String {
     let Sizes { blocks, entries, desks } = schedule.sizes;
     let memory = Memory::new(&mut Random::new(9), blocks as usize, (blocks * entries) as usize);
     let mut tally = Tally::default();
-    let mut run = Run::new(9, Mood::Legal, memory, &mut tally);
+    let mut run = Run::new(9, RunKind::Legal, memory, &mut tally);
     run.call(Call::Open(blocks, entries, desks)).unwrap_or_else(|difference| panic!("{difference}"));
     let mut lines = String::new();
     for (number, step) in (1..).zip(schedule) {

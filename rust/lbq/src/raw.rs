@@ -31,7 +31,7 @@ pub struct Checked {
 /// The survey's answer. A refused survey has mask 0, count 0 and lowest 64.
 #[derive(Clone, Copy, Debug, PartialEq, Eq)]
 #[repr(C)]
-pub struct Views {
+pub struct Findings {
     /// Bit b: an idle desk's look at block b would be SEEN.
     pub mask: u64,
     /// 0, 1 UNFIT, 2 DAMAGED.
@@ -42,7 +42,7 @@ pub struct Views {
     pub lowest: u32,
 }
 
-const _: () = assert!(size_of::<Answer>() == 8 && size_of::<Checked>() == 12 && size_of::<Views>() == 24);
+const _: () = assert!(size_of::<Answer>() == 8 && size_of::<Checked>() == 12 && size_of::<Findings>() == 24);
 
 extern "C" {
     /// The number of the library's interface.
@@ -99,5 +99,5 @@ extern "C" {
         table_len: usize,
         entries: *const u32,
         entries_len: usize,
-    ) -> Views;
+    ) -> Findings;
 }

@@ -15,9 +15,9 @@ pub struct Survey {
 }
 
 impl Survey {
-    pub(crate) fn of(views: raw::Views) -> Result<Self, Refusal> {
-        Refusal::of(views.number)?;
-        let lowest = (views.lowest < u64::BITS).then_some(views.lowest);
-        Ok(Self { mask: views.mask, count: views.count, lowest })
+    pub(crate) fn of(findings: raw::Findings) -> Result<Self, Refusal> {
+        Refusal::of(findings.number)?;
+        let lowest = (findings.lowest < u64::BITS).then_some(findings.lowest);
+        Ok(Self { mask: findings.mask, count: findings.count, lowest })
     }
 }

@@ -1,7 +1,7 @@
 //! The book, which is the meaning of a line: "a list of labels in the order placed, row n belonging to turn n div NE, a
 //! mark on each row (waiting or gone), K, and the desks with row numbers. Rows are never reused."
 
-use crate::records::{refusal, Answer, Views, LAST_LABEL, ROUNDS};
+use crate::records::{refusal, Answer, Findings, LAST_LABEL, ROUNDS};
 use std::ops::Range;
 
 /// One row: a label, and whether it is gone.
@@ -203,9 +203,9 @@ impl Book {
 
     /// The survey: which blocks an idle desk could take from.
     #[must_use]
-    pub fn survey(&self) -> Views {
+    pub fn survey(&self) -> Findings {
         let seen: Vec<usize> = (0..self.nb).filter(|&block| self.view(block).is_ok()).collect();
-        Views {
+        Findings {
             mask: seen.iter().map(|&block| 1_u64 << block).sum(),
             number: 0,
             count: seen.len() as u32,

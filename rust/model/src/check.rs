@@ -2,7 +2,8 @@
 //! damaged line breaks is then asked of [`rules`].
 
 use crate::records::{
-    refusal, Block, Checked, Head, Views, CLAIMED, FETCHED, IDLE, LOOKED, MOST_BLOCKS, MOST_DESKS, MOST_ENTRIES, ROUNDS,
+    refusal, Block, Checked, Findings, Head, CLAIMED, FETCHED, IDLE, LOOKED, MOST_BLOCKS, MOST_DESKS, MOST_ENTRIES,
+    ROUNDS,
 };
 use crate::rules;
 
@@ -39,8 +40,8 @@ pub fn check(head: &Head, table: &[Block], entries_len: usize) -> Checked {
 
 /// The survey.
 #[must_use]
-pub fn survey(head: &Head, table: &[Block], entries_len: usize) -> Views {
-    let refused = |number| Views { mask: 0, number, count: 0, lowest: 64 };
+pub fn survey(head: &Head, table: &[Block], entries_len: usize) -> Findings {
+    let refused = |number| Findings { mask: 0, number, count: 0, lowest: 64 };
     if !fits(head, table.len(), entries_len) {
         return refused(refusal::UNFIT);
     }
@@ -54,7 +55,7 @@ pub fn survey(head: &Head, table: &[Block], entries_len: usize) -> Views {
             standing.current_turn(block as u32).is_some_and(|turn| turn > head.k && record.claimed < record.written);
         mask |= u64::from(seen) << block;
     }
-    Views { mask, number: 0, count: mask.count_ones(), lowest: mask.trailing_zeros() }
+    Findings { mask, number: 0, count: mask.count_ones(), lowest: mask.trailing_zeros() }
 }
 
 /// Where turn P stands, from which every block's current turn follows without a division.

@@ -102,7 +102,7 @@ pub struct Checked {
 
 /// The survey's answer.
 #[derive(Clone, Copy, Debug, PartialEq, Eq)]
-pub struct Views {
+pub struct Findings {
     /// Bit b: an idle desk's look at block b would be SEEN.
     pub mask: u64,
     /// 0, 1 UNFIT or 2 DAMAGED.

@@ -1,4 +1,4 @@
-//! The moods of a run: which memory is lent, and which calls are made.
+//! The kinds of a run: which memory is lent, and which calls are made.
 
 use crate::call::Call;
 use crate::difference::Difference;
@@ -11,7 +11,7 @@ use model::records::{Block, Desk, Head, CLAIMED, FETCHED, IDLE, LAST_LABEL, LOOK
 
 /// What a run is out for.
 #[derive(Clone, Copy, Debug, PartialEq, Eq, PartialOrd, Ord)]
-pub enum Mood {
+pub enum RunKind {
     /// From opening, any sizes, steps that mostly can be done: filling, draining, stealing, all desks at one block.
     Legal,
     /// From opening, mostly codes and numbers that cannot be.
@@ -31,15 +31,15 @@ pub enum Mood {
     Unfit,
 }
 
-const WEIGHTS: [(Mood, u32); 8] = [
-    (Mood::Legal, 6),
-    (Mood::Broken, 2),
-    (Mood::Tiny, 6),
-    (Mood::Largest, 1),
-    (Mood::Worn, 3),
-    (Mood::Lent, 6),
-    (Mood::Damaged, 8),
-    (Mood::Unfit, 4),
+const WEIGHTS: [(RunKind, u32); 8] = [
+    (RunKind::Legal, 6),
+    (RunKind::Broken, 2),
+    (RunKind::Tiny, 6),
+    (RunKind::Largest, 1),
+    (RunKind::Worn, 3),
+    (RunKind::Lent, 6),
+    (RunKind::Damaged, 8),
+    (RunKind::Unfit, 4),
 ];
 
 type Outcome = Result<(), Box<Difference>>;
@@ -67,35 +67,35 @@ impl Sizes {
     }
 }
 
-pub(crate) fn drawn(random: &mut Random) -> Mood {
+pub(crate) fn drawn(random: &mut Random) -> RunKind {
     WEIGHTS[random.weighed(&WEIGHTS.map(|(_, weight)| weight))].0
 }
 
-pub(crate) fn play(mood: Mood, seed: u64, mut random: Random, tally: &mut Tally) -> Outcome {
+pub(crate) fn play(kind: RunKind, seed: u64, mut random: Random, tally: &mut Tally) -> Outcome {
     let random = &mut random;
-    let sizes = match mood {
-        Mood::Tiny if random.percent(50) => Sizes { nb: 2, ne: 1, t: 1 },
-        Mood::Tiny => Sizes { nb: random.within(2, 3), ne: random.within(1, 2), t: random.within(1, 2) },
-        Mood::Largest => Sizes { nb: 64, ne: 64, t: 16 },
+    let sizes = match kind {
+        RunKind::Tiny if random.percent(50) => Sizes { nb: 2, ne: 1, t: 1 },
+        RunKind::Tiny => Sizes { nb: random.within(2, 3), ne: random.within(1, 2), t: random.within(1, 2) },
+        RunKind::Largest => Sizes { nb: 64, ne: 64, t: 16 },
         _ => Sizes::drawn(random),
     };
-    if mood == Mood::Unfit {
+    if kind == RunKind::Unfit {
         return unfit(sizes, seed, random, tally);
     }
     let memory = sizes.memory(random);
-    let run = &mut Run::new(seed, mood, memory, tally);
-    match mood {
-        Mood::Legal | Mood::Tiny | Mood::Largest => {
+    let run = &mut Run::new(seed, kind, memory, tally);
+    match kind {
+        RunKind::Legal | RunKind::Tiny | RunKind::Largest => {
             run.call(Call::Check)?;
             run.call(sizes.open())?;
-            let steps = if mood == Mood::Largest { 8_000 } else { random.within(50, 3000) };
+            let steps = if kind == RunKind::Largest { 8_000 } else { random.within(50, 3000) };
             legal(sizes, random, run, steps)
         }
-        Mood::Broken => {
+        RunKind::Broken => {
             run.call(sizes.open())?;
             broken(sizes, random, run)
         }
-        Mood::Worn => {
+        RunKind::Worn => {
             // Everything read, as near to the end as a few rounds of puts.
             let p = ROUNDS * sizes.nb - 1 - random.below(3 * sizes.nb);
             let (nb, ne) = (sizes.nb as u16, sizes.ne as u16);
@@ -113,14 +113,14 @@ pub(crate) fn play(mood: Mood, seed: u64, mut random: Random, tally: &mut Tally)
             let steps = 8 * sizes.nb * sizes.ne + 50;
             legal(sizes, random, run, steps.min(6000))
         }
-        Mood::Lent => {
+        RunKind::Lent => {
             lend(sizes, random, run);
             run.call(Call::Check)?;
             let steps = random.within(20, 800);
             legal(sizes, random, run, steps)
         }
-        Mood::Damaged => damaged(sizes, random, run),
-        Mood::Unfit => unreachable!("played above"),
+        RunKind::Damaged => damaged(sizes, random, run),
+        RunKind::Unfit => unreachable!("played above"),
     }
 }
 
@@ -206,8 +206,8 @@ fn by_a_desk(sizes: Sizes, random: &mut Random, run: &Run, crowd: Option<u32>) -
     let block = match crowd {
         Some(block) => block,
         None if random.percent(80) => {
-            let views = model::line::survey(head, table, table.len() * usize::from(head.ne));
-            let seen: Vec<u32> = (0..sizes.nb).filter(|block| views.mask >> block & 1 == 1).collect();
+            let findings = model::line::survey(head, table, table.len() * usize::from(head.ne));
+            let seen: Vec<u32> = (0..sizes.nb).filter(|block| findings.mask >> block & 1 == 1).collect();
             if seen.is_empty() {
                 random.below(sizes.nb)
             } else {
@@ -482,7 +482,7 @@ fn unfit(sizes: Sizes, seed: u64, random: &mut Random, tally: &mut Tally) -> Out
         _ => (nb, ne, random.below(101), random.below(5001)),
     };
     let memory = Memory::new(random, records as usize, labels as usize);
-    let run = &mut Run::new(seed, Mood::Unfit, memory, tally);
+    let run = &mut Run::new(seed, RunKind::Unfit, memory, tally);
     let size = |random: &mut Random, right: u32, most: u32| match random.below(10) {
         0..=4 => right,
         5 => random.of(&[0, 1, 2, most, most + 1, 255, 256, 65_535]),
