@@ -12,7 +12,7 @@ use Rattle.line.specs.Check as C
 use Rattle.line.specs.Calls.{opens, step, orders, answers, after}
 use Rattle.line.specs.Survey.{seenFrom, maskOf, lowestFrom, views, surveys, survey}
 use Rattle.line.specs.Damaged.{SoundCases, UnfitCases, Rule1Cases, Rule2Cases, Rule3Cases, PairCases, Rule4Cases, Rule5Cases, Rule6Cases, Rule7Cases, SeveralCases}
-use Rattle.line.specs.Cases.{ListingCases, RunCases, WornCases, WayCases, StepCases, RefusedCases, OrderCases, SurveyCases, OpeningCases, OpeningUnfit, IdleCases}
+use Rattle.line.specs.Cases.{ListingCases, RunCases, WornCases, WayCases, StepCases, RefusedCases, OrderCases, SurveyCases, OpeningCases, OpeningUnfit, IdleCases, NumberCases}
 use Rattle.book.specs.Clearing.{settling}
 use Rattle.line.specs.Clearing.{emptying, clearing}
 use Rattle.line.specs.ClearingCases.{ClearingCases}
@@ -134,6 +134,10 @@ opening-unfit l ne t = refl
 pub idle-cases : IdleCases
 unfolding IdleCases
 idle-cases = refl
+
+pub number-cases : NumberCases
+unfolding NumberCases
+number-cases = (refl, λ place rule. refl, λ mask count lowest. refl)
 
 pub clearing-cases : ClearingCases
 unfolding calls settling emptying clearing ClearingCases

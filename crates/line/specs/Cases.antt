@@ -13,6 +13,8 @@ use Rattle.book.specs.Messages.{raw, put, get, order, claim, fetch, finish, loo
 use Rattle.book.specs.Cases.{Exchange, _⇒_}
 use Rattle.line.specs.Line.{Line, Outcome, says, numbersOf, opened}
 use Rattle.line.specs.Calls.{Opened, open·line, open·unfit, opens, step, orders, answers, after}
+use Rattle.line.specs.Check.{sound, unfit, broken}
+use Rattle.line.specs.Numbers.{openingSaid, checkSaid, SurveySaid, surveySaid}
 use Rattle.line.specs.Survey.{Surveyed, surveyed, survey·unfit, survey·damaged, Findings, survey}
 use Rattle.line.specs.Samples.{claimed, fetched, size, spot, fresh, started, middle, read, won, ends, stolen, five, lengths, short}
 use Rattle.line.specs.Samples.{withP, withK, withReading, withDesk, withStage, withRound, withWritten, withClaimed, withFinished, withEntry}
@@ -315,3 +317,14 @@ OpeningUnfit = (l : Line) (ne t : ℕ) → OpensTo (leaves l (size 1 ne t) ∷ l
 
 unfoldable pub IdleCases : Type 0
 IdleCases = numbersOf idle ≡ record { stage = 0; place = 0; turn = 0 }
+
+-- ---- what opening, the check and the survey say, case by case: 0, or the number of UNFIT or DAMAGED, and the values
+
+unfoldable pub NumberCases : Type 0
+NumberCases =
+    (map openingSaid (open·line ∷ open·unfit ∷ []) ≡ record { number = 0; value = 0 } ∷ record { number = 1; value = 0 } ∷ [])
+    × ((place rule : ℕ) → map checkSaid (sound ∷ unfit ∷ broken place rule ∷ [])
+    ≡ record { number = 0; place = 0; rule = 0 } ∷ record { number = 1; place = 0; rule = 0 } ∷ record { number = 2; place = place; rule = rule } ∷ [])
+    × ((mask count lowest : ℕ)
+    → map (λ a. surveySaid (record { answer = a; mask = mask; count = count; lowest = lowest })) (surveyed ∷ survey·unfit ∷ survey·damaged ∷ [])
+    ≡ map (λ n. record { number = n; mask = mask; count = count; lowest = lowest }) (0 ∷ 1 ∷ 2 ∷ []))
