@@ -1,0 +1,5 @@
+mod Calling
+mod Calls
+mod LendingLocals
+mod Passing
+mod Results
