@@ -328,3 +328,8 @@ NumberCases =
     × ((mask count lowest : ℕ)
     → map (λ a. surveySaid (record { answer = a; mask = mask; count = count; lowest = lowest })) (surveyed ∷ survey·unfit ∷ survey·damaged ∷ [])
     ≡ map (λ n. record { number = n; mask = mask; count = count; lowest = lowest }) (0 ∷ 1 ∷ 2 ∷ []))
+
+-- ---- the cases that compute, all of them
+
+unfoldable pub LineCases : Type 0
+LineCases = ListingCases × RunCases × WornCases × WayCases × StepCases × RefusedCases × OrderCases × SurveyCases × OpeningCases × IdleCases

@@ -201,3 +201,8 @@ SeveralCases =
     ∷ withWritten 1 0 (withClaimed 1 1 started) is broken 1 5
     ∷ withClaimed 1 2 started is broken 1 6
     ∷ [])
+
+-- ---- all of them
+
+unfoldable pub DamagedCases : Type 0
+DamagedCases = SoundCases × UnfitCases × Rule1Cases × Rule2Cases × Rule3Cases × PairCases × Rule4Cases × Rule5Cases × Rule6Cases × Rule7Cases × SeveralCases

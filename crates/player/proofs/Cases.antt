@@ -8,7 +8,7 @@ use Rattle.printing.specs.Text as T
 use Rattle.player.specs.Printed as P
 use Rattle.player.specs.Demands.{PlayedOnly}
 use Rattle.player.proofs.Demands.{played-only}
-use Rattle.player.specs.Cases.{ListingCases, HeaderCases, UnfitCases, CutCases, SizeCases, NumberCases, WordCases, LimitCases}
+use Rattle.player.specs.Cases.{ListingCases, HeaderCases, UnfitCases, CutCases, SizeCases, NumberCases, WordCases, PlayerCases, LimitCases}
 
 -- ---- what is computed with: to unfold one of these is to unfold all that it names
 
@@ -22,33 +22,9 @@ print = tt
 
 -- ---- the cases
 
-pub listing-cases : ListingCases
-unfolding print ListingCases
-listing-cases = refl
-
-pub header-cases : HeaderCases
-unfolding print HeaderCases
-header-cases = refl
-
-pub unfit-cases : UnfitCases
-unfolding print UnfitCases
-unfit-cases = refl
-
-pub cut-cases : CutCases
-unfolding print CutCases
-cut-cases = refl
-
-pub size-cases : SizeCases
-unfolding print SizeCases
-size-cases = refl
-
-pub number-cases : NumberCases
-unfolding print NumberCases
-number-cases = refl
-
-pub word-cases : WordCases
-unfolding print WordCases
-word-cases = refl
+pub player-cases : PlayerCases
+unfolding print PlayerCases ListingCases HeaderCases UnfitCases CutCases SizeCases NumberCases WordCases
+player-cases = (refl, refl, refl, refl, refl, refl, refl)
 
 pub limit-cases : LimitCases
 unfolding T.digits T.decimal T.lineText P.printed PlayedOnly LimitCases

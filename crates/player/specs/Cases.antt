@@ -103,3 +103,8 @@ unfoldable pub LimitCases : Type 0
 LimitCases =
     ((bs : List ℕ) → length bs ≡ 64809 → text bs ≡ letters "0 LONG 0\n")
     × ((bs : List ℕ) → length bs ≡ 64808 → isHeader bs ≡ false → text bs ≡ letters "0 HEADER 0\n")
+
+-- ---- the cases that compute, all of them
+
+unfoldable pub PlayerCases : Type 0
+PlayerCases = ListingCases × HeaderCases × UnfitCases × CutCases × SizeCases × NumberCases × WordCases

@@ -29,9 +29,9 @@ entry l = getD (l .entries) 0 0
 
 -- ---- the cases
 
-allowed : Steps fresh put7 (Put 7) placed × Orders fresh 1 5 (Refused Full 4) filled × Opens started three Open anew
+allowed : Steps fresh put7 (Put 7) placed × Orders fresh 1 5 (Refused Full 4) filled × Opens started three Open anew × Checks torn (Broken 1 4) × Surveys started seen
 unfolding calls
-allowed = (refl, refl, refl)
+allowed = (refl, refl, refl, refl, refl)
 
 pub step-case : StepCase
 step-case = record {
@@ -56,24 +56,16 @@ opening-case = record {
   not-an-entry-left = differs (λ (t : ToldOpening). entry (t .line)) (allowed .2) tt;
 }
 
-check-allowed : Checks torn (Broken 1 4)
-unfolding calls
-check-allowed = refl
-
 pub check-case : CheckCase
 check-case = record {
-  allowed = check-allowed;
-  not-sound = differs (λ (s : CheckSaid). s .number) check-allowed tt;
-  not-the-last = differs (λ (s : CheckSaid). s .place) check-allowed tt;
+  allowed = (allowed .3);
+  not-sound = differs (λ (s : CheckSaid). s .number) (allowed .3) tt;
+  not-the-last = differs (λ (s : CheckSaid). s .place) (allowed .3) tt;
 }
-
-survey-allowed : Surveys started seen
-unfolding calls
-survey-allowed = refl
 
 pub survey-case : SurveyCase
 survey-case = record {
-  allowed = survey-allowed;
-  not-invented = differs (λ (s : SurveySaid). s .count) survey-allowed tt;
-  not-refused = differs (λ (s : SurveySaid). s .number) survey-allowed tt;
+  allowed = (allowed .4);
+  not-invented = differs (λ (s : SurveySaid). s .count) (allowed .4) tt;
+  not-refused = differs (λ (s : SurveySaid). s .number) (allowed .4) tt;
 }
