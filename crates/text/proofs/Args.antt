@@ -49,5 +49,7 @@ module _ (l : List ℕ) (at i : ℕ) (r : Args) (g : Gathered l at i r) where
   gathered-more p w n h e = record {
     ns = g .ns ++ (n ∷ []);
     is = ap (λ (x : Args). more x n) (g .is) ∙ args-more (g .ns) n;
-    splits = g .splits ∙ ap (λ (x : List ℕ). g .ns ++ x) (numbers-next l i p w h ∙ ap (λ (k : ℕ). k ∷ numbers (drop (p .to) l)) (sym e)) ∙ sym (append-assoc (g .ns) (n ∷ []) (numbers (drop (p .to) l)));
+    splits =
+        g .splits ∙ ap (λ (x : List ℕ). g .ns ++ x) (numbers-next l i p w h ∙ ap (λ (k : ℕ). k ∷ numbers (drop (p .to) l)) (sym e))
+        ∙ sym (append-assoc (g .ns) (n ∷ []) (numbers (drop (p .to) l)));
   }

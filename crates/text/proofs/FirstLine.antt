@@ -49,7 +49,8 @@ unfolding bareLength
 bare-none [] h = refl
 bare-none (b ∷ l) h = absurd (omega arith)
 
-pub line-found : (t : List ℕ) (at k m : ℕ) → at < length t → k ≡ span isInLine (drop at t) → m ≡ bareLength (take (at + k - at) (drop at t)) → m ≤ length (take (at + k - at) (drop at t))
+pub line-found : (t : List ℕ) (at k m : ℕ) → at < length t → k ≡ span isInLine (drop at t)
+    → m ≡ bareLength (take (at + k - at) (drop at t)) → m ≤ length (take (at + k - at) (drop at t))
     → LineAt t at (record { from = at + m; to = at + k + 1 })
 line-found t at k m h e f g =
     let d = drop at t in let n = length-drop at t in let w = span-within isInLine d in
@@ -66,5 +67,7 @@ line-found t at k m h e f g =
       next = omega arith;
       last = omega arith;
       is = ap (λ (j : ℕ). take j d) zm ∙ sym (take-take m k d gk) ∙ ap (λ (j : ℕ). take j (take k d)) fk;
-      splits = lines-first d (omega arith) ∙ ap (split d) (sym e) ∙ ap (λ (x : List ℕ). take k d ∷ lines x) (drop-drop (suc k) at t ∙ ap (λ (j : ℕ). drop j t) next);
+      splits =
+          lines-first d (omega arith) ∙ ap (split d) (sym e)
+          ∙ ap (λ (x : List ℕ). take k d ∷ lines x) (drop-drop (suc k) at t ∙ ap (λ (j : ℕ). drop j t) next);
     }

@@ -51,7 +51,8 @@ module _ (l : List ℕ) (at : ℕ) (p : Part) (w : WordAt l at p) (n : ℕ) (is 
   times-large h = rw (said, gt→false n greatest h) refl
 
   module _ (q : Part) (v : WordAt l (p .to) q) (f : Form) (form : f ≡ formOf (within q l)) where
-    pub times-step : n ≤ greatest → (r : Args) → r ≡ argsOf (numbers (drop (q .to) l)) → (i : Item) → i ≡ stepItem f r n → (k : Kind) → f .kind ≡ k → onlyStep k i ≡ timesItem (drop at l)
+    pub times-step : n ≤ greatest → (r : Args) → r ≡ argsOf (numbers (drop (q .to) l)) → (i : Item) → i ≡ stepItem f r n → (k : Kind)
+        → f .kind ≡ k → onlyStep k i ≡ timesItem (drop at l)
     unfolding timesItem
     times-step h r a i s k t =
         let u : word (behind (drop at l)) ≡ within q l = ap word (sym (w .rest)) ∙ sym (v .is) in

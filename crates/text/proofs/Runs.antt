@@ -32,7 +32,8 @@ module _ (p : ℕ → Bool) where
   module _ (s : List ℕ) (i : ℕ) where
     pub span-more : i < length s → p (getD s i 0) ≡ true → i + span p (drop i s) ≡ span p s → i + 1 + span p (drop (i + 1) s) ≡ span p s
     span-more h t e =
-        let f : span p (drop i s) ≡ suc (span p (drop (i + 1) s)) = ap (span p) (drop-cons s i 0 h) ∙ span-yes (getD s i 0) (drop (suc i) s) t ∙ rw (add-one i) refl in
+        let f : span p (drop i s) ≡ suc (span p (drop (i + 1) s)) =
+        ap (span p) (drop-cons s i 0 h) ∙ span-yes (getD s i 0) (drop (suc i) s) t ∙ rw (add-one i) refl in
         omega arith
 
     pub span-stop : i < length s → p (getD s i 0) ≡ false → span p (drop i s) ≡ 0

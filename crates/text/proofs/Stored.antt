@@ -52,6 +52,9 @@ module _ (l : List ℕ) (from i at : ℕ) (before : List ℕ) (end : ℕ) (out :
     pub noted-more : (n : ℕ) → n ≡ value (within p l) → Noted l from (p .to) at before (end + 1) (set out end (low n))
     noted-more n e = record {
       done = g .done ++ (n ∷ []);
-      writes = rw (map-last low (g .done) n) (writes-more at end (end + 1) (map low (g .done)) (low n ∷ []) before out (set out end (low n)) (g .writes) (writes-one end (low n) out noted-room));
+      writes =
+          rw (map-last low (g .done) n)
+          (writes-more at end (end + 1) (map low (g .done)) (low n ∷ []) before out (set out end (low n)) (g .writes)
+          (writes-one end (low n) out noted-room));
       splits = rest ∙ ap (λ (k : ℕ). g .done ++ (k ∷ numbers (drop (p .to) l))) (sym e) ∙ sym (append-assoc (g .done) (n ∷ []) (numbers (drop (p .to) l)));
     }

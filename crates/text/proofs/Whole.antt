@@ -48,7 +48,8 @@ section-name : (x : List ℕ) (ls : List (List ℕ)) (b : List ℕ) → b ≡ ba
 unfolding section
 section-name x ls b e t = rw (← e, t) refl
 
-section-line : (x : List ℕ) (ls : List (List ℕ)) (b : List ℕ) → b ≡ bare x → isNamed (item b) ≡ false → section (x ∷ ls) ≡ length (said b 0 (item b)) + section ls
+section-line : (x : List ℕ) (ls : List (List ℕ)) (b : List ℕ) → b ≡ bare x → isNamed (item b) ≡ false
+    → section (x ∷ ls) ≡ length (said b 0 (item b)) + section ls
 unfolding section
 section-line x ls b e t = rw (← e, t) refl
 
@@ -137,13 +138,16 @@ module _ (t : List ℕ) (at : ℕ) (p : Part) (l : LineAt t at p) where
         let n : number + 1 ≡ suc number = omega arith in
         record {
           done = g .done ++ said piece (section ls) (item piece);
-          writes = subst (λ (x : List ℕ). Writes 0 (g .done ++ x) before r after) s (writes-more 0 end r (g .done) (said piece k i) before out after (g .writes) w);
+          writes =
+              subst (λ (x : List ℕ). Writes 0 (g .done ++ x) before r after) s
+              (writes-more 0 end r (g .done) (said piece k i) before out after (g .writes) w);
           same =
               ap (λ (x : ℕ). going x (g .done ++ said piece (section ls) (item piece)) ls) n
               ∙ sym (going-on number (g .done) (l .raw) ls piece (l .is) (sym (ap isRefused is) ∙ e) (omega (arith, long))) ∙ now;
         }
 
-pub going-end : (t before : List ℕ) (at number end : ℕ) (out : List ℕ) → Going t before at number end out → length t ≤ at → Filled (going 1 [] (lines t)) before (Made end) out
+pub going-end : (t before : List ℕ) (at number end : ℕ) (out : List ℕ) → Going t before at number end out → length t ≤ at
+    → Filled (going 1 [] (lines t)) before (Made end) out
 unfolding Filled
 going-end t before at number end out g h =
     let ls : lines (drop at t) ≡ [] = ap lines (drop-of-length-le t h) ∙ lines-none in
@@ -191,13 +195,14 @@ made-front (bytes bs) n before after e =
     let p : Made n ≡ Made (length bs) = ap (λ (x : Answer × List ℕ). x .0) e in let k : n ≡ length bs = cc in
     let f : after ≡ bs ++ drop (length bs) before = ap (λ (x : Answer × List ℕ). x .1) e in
     omega (arith, ap length f, length-append bs (drop (length bs) before))
-made-front (refused k w) n before after e = absurd (let p : Made n ≡ Bad k w = ap (λ (x : Answer × List ℕ). x .0) e in let z : _≡_ {A = ℕ} 0 1 = cc in omega arith)
+made-front (refused k w) n before after e =
+    absurd (let p : Made n ≡ Bad k w = ap (λ (x : Answer × List ℕ). x .0) e in let z : _≡_ {A = ℕ} 0 1 = cc in omega arith)
 
 pub made-room : (t before after : List ℕ) (n : ℕ) (r : Answer) → (r, after) ≡ outcome (meaning t) before → r ≡ Made n → n ≤ length after
 made-room t before after n r e f = made-front (meaning t) n before after (subst (λ (x : Answer). (x, after) ≡ outcome (meaning t) before) f e)
 
 -- ---- any two outcomes that the promise allows are equal
 
-pub bytes-unique : (t before : List ℕ) (r s : Answer) (after behind : List ℕ) → (r, after) ≡ outcome (meaning t) before → (s, behind) ≡ outcome (meaning t) before
-    → (r ≡ s) × (after ≡ behind)
+pub bytes-unique : (t before : List ℕ) (r s : Answer) (after behind : List ℕ) → (r, after) ≡ outcome (meaning t) before
+    → (s, behind) ≡ outcome (meaning t) before → (r ≡ s) × (after ≡ behind)
 bytes-unique t before r s after behind p q = let e = p ∙ sym q in (ap (λ x. x .0) e, ap (λ x. x .1) e)

@@ -109,7 +109,8 @@ unfolding words
 words-some [] e = absurd (omega (arith, behind-less [] e))
 words-some (b ∷ m) e =
     let h = behind-less (b ∷ m) e in
-    upto-some (length m) (b ∷ m) e ∙ ap (λ (ws : List (List ℕ)). word (b ∷ m) ∷ ws) (upto-same (length m) (length (behind (b ∷ m))) (behind (b ∷ m)) (omega arith) (omega arith))
+    upto-some (length m) (b ∷ m) e
+    ∙ ap (λ (ws : List (List ℕ)). word (b ∷ m) ∷ ws) (upto-same (length m) (length (behind (b ∷ m))) (behind (b ∷ m)) (omega arith) (omega arith))
 
 pub numbers-none : (l : List ℕ) → isNone (word l) ≡ true → numbers l ≡ []
 unfolding numbers
@@ -129,4 +130,6 @@ module _ (l : List ℕ) (at : ℕ) (r : Part) (w : WordAt l at r) where
   numbers-end h = numbers-none (drop at l) (word-none l at r w h)
 
   pub numbers-next : r .from < r .to → numbers (drop at l) ≡ value (within r l) ∷ numbers (drop (r .to) l)
-  numbers-next h = numbers-some (drop at l) (word-some l at r w h) ∙ ap (λ (x : List ℕ). value x ∷ numbers (behind (drop at l))) (sym (w .is)) ∙ ap (λ (x : List ℕ). value (within r l) ∷ numbers x) (sym (w .rest))
+  numbers-next h =
+      numbers-some (drop at l) (word-some l at r w h) ∙ ap (λ (x : List ℕ). value x ∷ numbers (behind (drop at l))) (sym (w .is))
+      ∙ ap (λ (x : List ℕ). value (within r l) ∷ numbers x) (sym (w .rest))

@@ -1,51 +1,33 @@
 -- By the first word: none, a comment, or a form.
 use mathlib.Core.Path.{_∙_}
-use Rattle.text.proofs.Meant.{item-none, item-comment, item-form}
 use borrow.Author.Needs.{needs}
+use Rattle.text.proofs.Meant.{item-none, item-comment, item-form}
 use Rattle.text.proofs.items.item_of.Statement.{statement}
 use Rattle.text.proofs.items.item_of.Tie as tie
 
-word-at-requires : tie.Need-word-at-requires
-word-at-requires c κs = search needs
+-- the places of the code: where a word is found, and where it starts no comment
+abbrev found : tie.After-shared-slice-known2 → tie.Else1
+found c = c .before
 
-returns : tie.Need-returns
-returns c = item-none _ _ (c .before .word-at .ensures) (c .if1 .taken)
-
-shared-slice-read-if2 : tie.Need-shared-slice-read-if2
-shared-slice-read-if2 c = search needs
+abbrev wanted : tie.After-form-of → tie.Else2
+wanted c = c .before .before
 
 returns-2 : tie.Need-returns-2
-returns-2 c = item-comment _ _ (c .before .before .before .word-at .ensures) (c .before .before .if1 .left) (c .if2 .taken)
-
-sub-form-of : tie.Need-sub-form-of
-sub-form-of c = search needs
-
-part-form-of-start : tie.Need-part-form-of-start
-part-form-of-start c = search needs
-
-part-form-of-end : tie.Need-part-form-of-end
-part-form-of-end c = search needs
-
-form-of-requires : tie.Need-form-of-requires
-form-of-requires c κs = search needs
-
-item-by-requires : tie.Need-item-by-requires
-item-by-requires c κs = search needs
+returns-2 c = let e = found (c .before) in item-comment _ _ (e .before .word-at .ensures) (e .if1 .left) (c .if2 .taken)
 
 returns-3 : tie.Need-returns-3
-returns-3 c = c .item-by .ensures ∙ item-form _ _ (c .before .before .before .before .before .before .word-at .ensures) (c .before .before .before .before .before .if1 .left) (c .before .before .before .if2 .left) _ (c .before .form-of .ensures)
+returns-3 c =
+    let f = c .before in let k = wanted f in let e = found (k .before) in
+    c .item-by .ensures ∙ item-form _ _ (e .before .word-at .ensures) (e .if1 .left) (k .if2 .left) _ (f .form-of .ensures)
 
 pub item-of-spec : {M : Type 1} → statement M
 item-of-spec =
     tie.close
     (tie.spec
-    word-at-requires
-    returns
-    shared-slice-read-if2
+    (λ c κs. search needs)
+    (λ c. item-none _ _ (c .before .word-at .ensures) (c .if1 .taken))
+    (λ c. search needs)
     returns-2
-    sub-form-of
-    part-form-of-start
-    part-form-of-end
-    form-of-requires
-    item-by-requires
+    (λ c. search needs) (λ c. search needs) (λ c. search needs) (λ c κs. search needs)
+    (λ c κs. search needs)
     returns-3)

@@ -1,154 +1,129 @@
 -- The bytes of the lines passed are written, and the lines left decide.
-use lib.ListN.{take, length, drop}
 use mathlib.Core.Path.{_≡_, refl, sym, _∙_}
+use mathlib.Core.Bool.{false}
+use Prim.Native.Nat.{_+_, _-_, _≤_}
 use native.Mathlib.Omega.{arith}
 use borrow.Author.Needs.{needs}
-use Prim.Native.Nat.{_+_, _-_, _≤_}
-use Rattle.text.proofs.Whole.{piece-short, said-long, Going, going-start, stop-refused, stop-full, goes-on, going-end}
+use lib.ListN.{length}
 use Rattle.printing.proofs.Stores.{writes-length}
+use Rattle.text.specs.Items.{isRefused}
+use Rattle.text.proofs.Whole.{piece, piece-short, said-long, Going, going-start, stop-refused, stop-full, goes-on, going-end}
 use Rattle.text.proofs.lines.fill.Statement.{statement}
 use Rattle.text.proofs.lines.fill.Tie as tie
 
 abbrev Inv-loop : tie.InvT-loop
-Inv-loop text out₀ at₀ number₀ end₀ out at number end = (length text ≤ 262144) × (length out₀ ≡ 262144) × (length out ≡ length out₀) × (number ≤ at + 1) × (end ≤ 262144) × Going text out₀ at number end out
+Inv-loop text out₀ at₀ number₀ end₀ out at number end =
+    (length text ≤ 262144) × (length out₀ ≡ 262144) × (length out ≡ length out₀) × (number ≤ at + 1) × (end ≤ 262144)
+    × Going text out₀ at number end out
 
 abbrev μ-loop : tie.MeasureT-loop
 μ-loop text out₀ at₀ number₀ end₀ out at number end = length text - at
 
-loop-holds : tie.Need-loop-holds Inv-loop μ-loop
-loop-holds c = let s = c .before .before in (s .pre .0, s .pre .1, refl, omega arith, omega arith, going-start _ _)
+-- ---- the places of the code, from the last of a turn to its first
 
-line-at-requires : tie.Need-line-at-requires Inv-loop μ-loop
-line-at-requires c κs = (c .loop-test .taken, c .before .loop .inv .0)
+abbrev written : tie.After-slice-known2 Inv-loop μ-loop → tie.After-write-item Inv-loop μ-loop
+written c = c .before .before
 
-sub-item-of : tie.Need-sub-item-of Inv-loop μ-loop
-sub-item-of c = c .line-at .ensures .order
+abbrev said : tie.After-write-item-arg2 Inv-loop μ-loop → tie.After-length-said Inv-loop μ-loop
+said c = c .before .before
 
-part-item-of-start : tie.Need-part-item-of-start Inv-loop μ-loop
-part-item-of-start c = c .line-at .ensures .order
+abbrev sized : tie.After-length-said Inv-loop μ-loop → tie.After-size-of Inv-loop μ-loop
+sized c = c .before .before
 
-part-item-of-end : tie.Need-part-item-of-end Inv-loop μ-loop
-part-item-of-end c = c .line-at .ensures .end
+abbrev taken : tie.After-size-of Inv-loop μ-loop → tie.Else1 Inv-loop μ-loop
+taken c = c .before .before
 
-item-of-requires : tie.Need-item-of-requires Inv-loop μ-loop
-item-of-requires c κs =
-    let h = piece-short _ _ _ (c .before .line-at .ensures) in
-    omega (arith, h, c .before .before .before .loop .inv .0)
+abbrev refused : tie.After-wanted-of Inv-loop μ-loop → tie.After-is-refused Inv-loop μ-loop
+refused c = c .before .before
 
-is-refused-requires : tie.Need-is-refused-requires Inv-loop μ-loop
-is-refused-requires c κs = search needs
+abbrev line : tie.After-item-of Inv-loop μ-loop → tie.After-line-at Inv-loop μ-loop
+line c = c .before .before
 
-wanted-of-requires : tie.Need-wanted-of-requires Inv-loop μ-loop
-wanted-of-requires c κs = search needs
+abbrev line-of : tie.Else1 Inv-loop μ-loop → tie.After-line-at Inv-loop μ-loop
+line-of c = line (c .before .before)
 
-same-length : tie.Need-same-length Inv-loop μ-loop
-same-length c = c .before .before .before .before .before .before .before .loop .inv .2
+abbrev turn : tie.After-line-at Inv-loop μ-loop → tie.At-loop Inv-loop μ-loop
+turn c = c .before .before
+
+-- from the end of a turn
+abbrev line-done : tie.After-slice-known2 Inv-loop μ-loop → tie.After-line-at Inv-loop μ-loop
+line-done c = line-of (taken (sized (said (written c .before))))
+
+-- ---- what is known there
+
+-- the line that is lent is short
+short : (c : tie.After-line-at Inv-loop μ-loop) → length (piece _ _ _ (c .line-at .ensures)) ≤ 262144
+short c = let h = piece-short _ _ _ (c .line-at .ensures) in omega (arith, h, turn c .loop .inv .0)
+
+accepted : (c : tie.Else1 Inv-loop μ-loop) → isRefused (c .before .before .item-of .result) ≡ false
+accepted c = sym (c .before .is-refused .ensures) ∙ c .if1 .left
+
+-- ---- a line that is refused, one that finds no room, and one that is written
 
 returns : tie.Need-returns Inv-loop μ-loop
 returns c =
-    let l = c .before .before .before .before .before .before .before .loop in
-    let p = c .before .before .before .before .before .line-at in
-    let i = c .before .before .before .item-of in
-    stop-refused _ _ _ (p .ensures) _ _ _ _ (l .inv .5) _ (i .ensures) (sym (c .before .before .is-refused .ensures) ∙ c .before .if1 .taken) _ (c .wanted-of .ensures)
-
-sub-if2 : tie.Need-sub-if2 Inv-loop μ-loop
-sub-if2 c = c .before .before .before .before .before .before .loop .inv .4
-
-sub-size-of : tie.Need-sub-size-of Inv-loop μ-loop
-sub-size-of c = c .before .before .before .before .line-at .ensures .order
-
-part-size-of-start : tie.Need-part-size-of-start Inv-loop μ-loop
-part-size-of-start c = c .before .before .before .before .line-at .ensures .order
-
-part-size-of-end : tie.Need-part-size-of-end Inv-loop μ-loop
-part-size-of-end c = c .before .before .before .before .line-at .ensures .end
-
-size-of-requires : tie.Need-size-of-requires Inv-loop μ-loop
-size-of-requires c κs =
-    let h = piece-short _ _ _ (c .before .before .before .before .before .line-at .ensures) in
-    omega (arith, h, c .before .before .before .before .before .before .before .loop .inv .0)
-
-same-length-2 : tie.Need-same-length-2 Inv-loop μ-loop
-same-length-2 c = c .before .before .before .before .before .before .before .before .before .loop .inv .2
+    let r = refused c in let i = r .before in let p = line i in
+    stop-refused _ _ _ (p .line-at .ensures) _ _ _ _ (turn p .loop .inv .5) _ (i .item-of .ensures)
+    (sym (r .is-refused .ensures) ∙ c .before .if1 .taken) _ (c .wanted-of .ensures)
 
 returns-2 : tie.Need-returns-2 Inv-loop μ-loop
 returns-2 c =
-    let l = c .before .before .before .before .before .before .before .before .before .loop in
-    let p = c .before .before .before .before .before .before .before .line-at in
-    let i = c .before .before .before .before .before .item-of in
-    stop-full _ _ _ (p .ensures) _ _ _ _ (l .inv .5) _ (i .ensures) (sym (c .before .before .before .before .is-refused .ensures) ∙ c .before .before .before .if1 .left) (omega (arith, c .before .size-of .ensures .0, c .if2 .taken, l .inv .4))
-
-length-said-requires : tie.Need-length-said-requires Inv-loop μ-loop
-length-said-requires c κs = c .before .before .before .before .before .before .before .before .before .loop .inv .0
-
-sub-write-item : tie.Need-sub-write-item Inv-loop μ-loop
-sub-write-item c = c .before .before .before .before .before .before .before .before .line-at .ensures .order
-
-part-write-item-start : tie.Need-part-write-item-start Inv-loop μ-loop
-part-write-item-start c = c .before .before .before .before .before .before .before .before .line-at .ensures .order
-
-part-write-item-end : tie.Need-part-write-item-end Inv-loop μ-loop
-part-write-item-end c = c .before .before .before .before .before .before .before .before .line-at .ensures .end
+    let z = c .before in let e = taken z in let p = line-of e in let l = turn p .loop in
+    stop-full _ _ _ (p .line-at .ensures) _ _ _ _ (l .inv .5) _ (e .before .before .item-of .ensures) (accepted e)
+    (omega (arith, z .size-of .ensures .0, c .if2 .taken, l .inv .4))
 
 write-item-requires : tie.Need-write-item-requires Inv-loop μ-loop
 write-item-requires c κs =
-    let l = c .before .before .before .before .before .before .before .before .before .before .before .before .loop in
-    let k = said-long (take (c .before .before .before .before .before .before .before .before .before .before .line-at .result .from - l .at) (drop (l .at) (c .before .before .before .before .before .before .before .before .before .before .before .before .before .before .before .args .text .now))) (c .before .before .length-said .result) (c .before .before .before .before .before .before .before .before .item-of .result) in
-    omega (arith, k, c .before .before .before .before .size-of .ensures .0, c .before .before .before .if2 .left, l .inv .1, l .inv .2, l .inv .4)
+    let k = said c in let z = sized k in let e = taken z in let p = line-of e in let l = turn p .loop in
+    let same = said-long (piece _ _ _ (p .line-at .ensures)) (k .length-said .result) (e .before .before .item-of .result) in
+    omega (arith, same, z .size-of .ensures .0, k .before .if2 .left, l .inv .1, l .inv .2, l .inv .4)
 
 add-number : tie.Need-add-number Inv-loop μ-loop
-add-number c = omega (arith, c .before .before .before .before .before .before .before .before .before .before .before .before .before .before .before .loop .inv .0, c .before .before .before .before .before .before .before .before .before .before .before .before .before .before .before .loop .inv .3, c .before .before .before .before .before .before .before .before .before .before .before .before .before .before .loop-test .taken)
-
-loop-less : tie.Need-loop-less Inv-loop μ-loop
-loop-less c = omega (arith, c .before .before .before .before .before .before .before .before .before .before .before .before .before .line-at .ensures .next, c .before .before .before .before .before .before .before .before .before .before .before .before .before .before .loop-test .taken)
+add-number c = let p = line-done c in let l = turn p .loop in omega (arith, l .inv .0, l .inv .3, p .before .loop-test .taken)
 
 loop-again : tie.Need-loop-again Inv-loop μ-loop
 loop-again c =
-    let l = c .before .before .before .before .before .before .before .before .before .before .before .before .before .before .before .loop in
-    let p = c .before .before .before .before .before .before .before .before .before .before .before .before .before .line-at in
-    let i = c .before .before .before .before .before .before .before .before .before .before .before .item-of in
-    let w = c .before .before .write-item in
-    let r = w .ensures .room in
-    let len = writes-length _ _ _ _ _ (w .ensures) ∙ l .inv .2 in
-    let g = goes-on _ _ _ (p .ensures) _ _ _ _ (l .inv .5) _ (i .ensures) (sym (c .before .before .before .before .before .before .before .before .before .before .is-refused .ensures) ∙ c .before .before .before .before .before .before .before .before .before .if1 .left) (omega (arith, c .before .before .before .before .before .before .before .size-of .ensures .0, c .before .before .before .before .before .before .if2 .left, l .inv .4)) _ (c .before .before .before .before .before .length-said .ensures) _ _ (w .ensures) in
-    (l .inv .0, l .inv .1, len, omega (arith, l .inv .3, p .ensures .next), omega (arith, r, l .inv .1, l .inv .2), g)
-
-same-length-3 : tie.Need-same-length-3 Inv-loop μ-loop
-same-length-3 c = c .before .loop .inv .2
-
-returns-3 : tie.Need-returns-3 Inv-loop μ-loop
-returns-3 c = let l = c .before .loop in going-end _ _ _ _ _ _ (l .inv .5) (c .loop-test .left)
+    let w = written c in let k = said (w .before) in let z = sized k in let e = taken z in let p = line-of e in
+    let l = turn p .loop in let done = w .write-item .ensures in let r = done .room in
+    let g =
+    goes-on _ _ _ (p .line-at .ensures) _ _ _ _ (l .inv .5) _ (e .before .before .item-of .ensures) (accepted e)
+    (omega (arith, z .size-of .ensures .0, k .before .if2 .left, l .inv .4)) _ (k .length-said .ensures) _ _ done in (
+      l .inv .0,
+      l .inv .1,
+      writes-length _ _ _ _ _ done ∙ l .inv .2,
+      omega (arith, l .inv .3, p .line-at .ensures .next),
+      omega (arith, r, l .inv .1, l .inv .2),
+      g,
+    )
 
 pub fill-spec : {M : Type 1} → statement M
 fill-spec =
     tie.close
-    (tie.spec
-    Inv-loop
-    μ-loop
-    loop-holds
-    line-at-requires
-    sub-item-of
-    part-item-of-start
-    part-item-of-end
-    item-of-requires
-    is-refused-requires
-    wanted-of-requires
-    same-length
+    (tie.spec Inv-loop μ-loop
+    (λ c. let s = c .before .before in (s .pre .0, s .pre .1, refl, omega arith, omega arith, going-start _ _))
+    (λ c κs. (c .loop-test .taken, c .before .loop .inv .0))
+    (λ c. c .line-at .ensures .order)
+    (λ c. c .line-at .ensures .order)
+    (λ c. c .line-at .ensures .end)
+    (λ c κs. short (c .before))
+    (λ c κs. search needs)
+    (λ c κs. search needs)
+    (λ c. turn (line (refused c .before)) .loop .inv .2)
     returns
-    sub-if2
-    sub-size-of
-    part-size-of-start
-    part-size-of-end
-    size-of-requires
-    same-length-2
+    (λ c. turn (line-of c) .loop .inv .4)
+    (λ c. line-of c .line-at .ensures .order)
+    (λ c. line-of c .line-at .ensures .order)
+    (λ c. line-of c .line-at .ensures .end)
+    (λ c κs. short (line-of (c .before)))
+    (λ c. turn (line-of (taken (c .before))) .loop .inv .2)
     returns-2
-    length-said-requires
-    sub-write-item
-    part-write-item-start
-    part-write-item-end
+    (λ c κs. turn (line-of (taken (c .before))) .loop .inv .0)
+    (λ c. line-of (taken (sized c)) .line-at .ensures .order)
+    (λ c. line-of (taken (sized c)) .line-at .ensures .order)
+    (λ c. line-of (taken (sized c)) .line-at .ensures .end)
     write-item-requires
     add-number
-    loop-less
+    (λ c. let p = line-done c in omega (arith, p .line-at .ensures .next, p .before .loop-test .taken))
     loop-again
-    same-length-3
-    returns-3)
+    (λ c. c .before .loop .inv .2)
+    (λ c. going-end _ _ _ _ _ _ (c .before .loop .inv .5) (c .loop-test .left)))

@@ -15,34 +15,26 @@ Inv-loop word key i₀ i = (i ≤ length word) × (i ≤ length key) × (same (d
 abbrev μ-loop : tie.MeasureT-loop
 μ-loop word key i₀ i = length word - i
 
-loop-holds : tie.Need-loop-holds Inv-loop μ-loop
-loop-holds c = (omega arith, omega arith, refl)
+-- the places of the code: where both have a byte, and the turn
+abbrev both : tie.After-shared-slice-known2 Inv-loop μ-loop → tie.Else1 Inv-loop μ-loop
+both c = c .before .before
+
+abbrev turn : tie.After-shared-slice-known2 Inv-loop μ-loop → tie.At-loop Inv-loop μ-loop
+turn c = both c .before .before
 
 returns : tie.Need-returns Inv-loop μ-loop
 returns c =
     let l = c .before .before .loop in
     sym (sym (l .inv .2) ∙ same-short _ _ (l .i) (c .before .loop-test .taken) (c .if1 .taken))
 
-shared-slice-read-b : tie.Need-shared-slice-read-b Inv-loop μ-loop
-shared-slice-read-b c = search needs
-
-shared-slice-read-c : tie.Need-shared-slice-read-c Inv-loop μ-loop
-shared-slice-read-c c = search needs
-
 returns-2 : tie.Need-returns-2 Inv-loop μ-loop
 returns-2 c =
-    let l = c .before .before .before .before .before .loop in
+    let l = turn (c .before) .loop in
     sym (sym (l .inv .2) ∙ same-not _ _ (l .i) (omega arith) (omega arith) (c .if2 .taken))
-
-add-i : tie.Need-add-i Inv-loop μ-loop
-add-i c = search needs
-
-loop-less : tie.Need-loop-less Inv-loop μ-loop
-loop-less c = search needs
 
 loop-again : tie.Need-loop-again Inv-loop μ-loop
 loop-again c =
-    let l = c .before .before .before .before .before .loop in
+    let l = turn (c .before) .loop in
     (omega arith, omega arith, sym (same-more _ _ (l .i) (omega arith) (omega arith) (c .if2 .left)) ∙ l .inv .2)
 
 returns-3 : tie.Need-returns-3 Inv-loop μ-loop
@@ -51,15 +43,13 @@ returns-3 c = let l = c .before .loop in sym (sym (l .inv .2) ∙ same-end _ _ (
 pub same-bytes-spec : {M : Type 1} → statement M
 same-bytes-spec =
     tie.close
-    (tie.spec
-    Inv-loop
-    μ-loop
-    loop-holds
+    (tie.spec Inv-loop μ-loop
+    (λ c. (omega arith, omega arith, refl))
     returns
-    shared-slice-read-b
-    shared-slice-read-c
+    (λ c. search needs)
+    (λ c. search needs)
     returns-2
-    add-i
-    loop-less
+    (λ c. search needs)
+    (λ c. search needs)
     loop-again
     returns-3)

@@ -18,53 +18,40 @@ Inv-loop s stop i₀ i = (i ≤ length s) × (i + span (passes stop) (drop i s) 
 abbrev μ-loop : tie.MeasureT-loop
 μ-loop s stop i₀ i = length s - i
 
-loop-holds : tie.Need-loop-holds Inv-loop μ-loop
-loop-holds c = (omega arith, zero-add _)
+-- the places of the code: a turn, from where its byte was asked about, and the start
+abbrev turn : tie.After-passes-by Inv-loop μ-loop → tie.In-loop Inv-loop μ-loop
+turn c = c .before .before
 
-shared-slice-read-b : tie.Need-shared-slice-read-b Inv-loop μ-loop
-shared-slice-read-b c = search needs
-
-passes-by-requires : tie.Need-passes-by-requires Inv-loop μ-loop
-passes-by-requires c κs = search needs
+abbrev start : tie.At-loop Inv-loop μ-loop → tie.Start Inv-loop μ-loop
+start c = c .before .before
 
 returns : tie.Need-returns Inv-loop μ-loop
 returns c =
-    let l = c .before .before .before .before .loop in
-    let a = c .before .before .before .before .before .before .args in
-    let z = span-stop (passes (a .stop)) (a .s .now) (l .i) (c .before .before .before .loop-test .taken) (sym (c .before .passes-by .ensures) ∙ not-true _ (c .if1 .taken)) in
+    let b = c .before in let k = turn b in let q = k .before in let a = start q .args in let l = q .loop in
+    let z = span-stop (passes (a .stop)) (a .s .now) (l .i) (k .loop-test .taken) (sym (b .passes-by .ensures) ∙ not-true _ (c .if1 .taken)) in
     (omega (arith, l .inv .1), l .inv .0)
-
-add-i : tie.Need-add-i Inv-loop μ-loop
-add-i c = search needs
-
-loop-less : tie.Need-loop-less Inv-loop μ-loop
-loop-less c = search needs
 
 loop-again : tie.Need-loop-again Inv-loop μ-loop
 loop-again c =
-    let l = c .before .before .before .before .loop in
-    let a = c .before .before .before .before .before .before .args in
-    let h = c .before .before .before .loop-test .taken in
-    (omega arith, span-more (passes (a .stop)) (a .s .now) (l .i) h (sym (c .before .passes-by .ensures) ∙ not-false _ (c .if1 .left)) (l .inv .1))
+    let b = c .before in let k = turn b in let q = k .before in let a = start q .args in let l = q .loop in
+    let h = k .loop-test .taken in
+    (omega arith, span-more (passes (a .stop)) (a .s .now) (l .i) h (sym (b .passes-by .ensures) ∙ not-false _ (c .if1 .left)) (l .inv .1))
 
 returns-2 : tie.Need-returns-2 Inv-loop μ-loop
 returns-2 c =
-    let l = c .before .loop in
-    let a = c .before .before .before .args in
+    let q = c .before in let a = start q .args in let l = q .loop in
     let z = span-end (passes (a .stop)) (a .s .now) (l .i) (c .loop-test .left) in
     (omega (arith, l .inv .1), l .inv .0)
 
 pub span-of-spec : {M : Type 1} → statement M
 span-of-spec =
     tie.close
-    (tie.spec
-    Inv-loop
-    μ-loop
-    loop-holds
-    shared-slice-read-b
-    passes-by-requires
+    (tie.spec Inv-loop μ-loop
+    (λ c. (omega arith, zero-add _))
+    (λ c. search needs)
+    (λ c κs. search needs)
     returns
-    add-i
-    loop-less
+    (λ c. search needs)
+    (λ c. search needs)
     loop-again
     returns-2)

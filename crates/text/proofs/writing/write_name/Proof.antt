@@ -1,83 +1,75 @@
 -- The name, then what stands behind it.
-use mathlib.Core.Path.{ap, subst, _∙_}
+use mathlib.Core.Path.{_≡_, ap, subst, _∙_}
+use mathlib.Core.List.{List, _∷_}
+use Prim.Native.Nat.{ℕ, _-_}
 use native.Mathlib.Omega.{arith}
-use mathlib.Core.List.{_∷_, List}
-use lib.ListN.{length, length-append}
-use Rattle.printing.proofs.Stores.{writes-more, writes-length}
-use Rattle.printing.specs.Writes.{Writes}
-use Prim.Native.Nat.{ℕ}
-use Rattle.text.specs.Meaning.{four}
-use Rattle.text.specs.Items.{nameOf}
-use Rattle.text.proofs.Runs.{rest-all}
 use borrow.Author.Needs.{needs}
+use lib.ListN.{length, take, drop, length-append}
+use Rattle.printing.specs.Writes.{Writes}
+use Rattle.printing.proofs.Stores.{writes-more, writes-length}
+use Rattle.text.specs.Items.{nameOf}
+use Rattle.text.specs.Meaning.{four}
+use Rattle.text.proofs.Runs.{rest-all}
 use Rattle.text.proofs.writing.write_name.Statement.{statement}
 use Rattle.text.proofs.writing.write_name.Tie as tie
 
-name-at-requires : tie.Need-name-at-requires
-name-at-requires c κs = search needs
+-- ---- the places of the code, from the last to the first
 
-sub-copy : tie.Need-sub-copy
-sub-copy c = search needs
+abbrev mark-written : tie.After-slice-known3 → tie.After-copy2
+mark-written c = c .before .before
 
-part-copy-start : tie.Need-part-copy-start
-part-copy-start c = search needs
+abbrev marked : tie.After-copy-arg4 → tie.After-copy-arg3
+marked c = c .before .before
 
-part-copy-end : tie.Need-part-copy-end
-part-copy-end c = search needs
+abbrev name-written : tie.After-slice-known2 → tie.After-copy
+name-written c = c .before .before
+
+abbrev from : tie.After-copy-arg2 → tie.After-name-at
+from c = c .before .before
+
+abbrev start : tie.After-slice-known → tie.Start
+start c = c .before .before
+
+-- ---- what is lent is the name
+
+module _ (c : tie.After-name-at) where
+  abbrev line : List ℕ
+  line = start (c .before) .args .line .now
+
+  is-name : take (length line - c .name-at .result) (drop (c .name-at .result) line) ≡ nameOf line
+  is-name = rest-all (c .name-at .result) line ∙ c .name-at .ensures .1
 
 copy-requires : tie.Need-copy-requires
 copy-requires c κs =
-    let s = c .before .before .before .before .before in
-    let a = s .args in
-    let n = c .before .before .name-at in
-    let e = ap length (rest-all (n .result) (a .line .now) ∙ n .ensures .1) in
-    let d = length-append (nameOf (a .line .now)) (10 ∷ four (a .k)) in
+    let f = from c in let s = start (f .before) in
+    let e = ap length (is-name f) in
+    let d = length-append (nameOf (line f)) (10 ∷ four (s .args .k)) in
     omega (arith, s .pre)
-
-mark-requires : tie.Need-mark-requires
-mark-requires c κs = search needs
-
-slice-aggregate-copy : tie.Need-slice-aggregate-copy
-slice-aggregate-copy c = search needs
 
 copy-requires-2 : tie.Need-copy-requires-2
 copy-requires-2 c κs =
-    let s = c .before .before .before .before .before .before .before .before .before .before .before in
-    let a = s .args in
-    let n = c .before .before .before .before .before .before .before .before .name-at in
-    let w = c .before .before .before .before .before .copy in
-    let e = ap length (rest-all (n .result) (a .line .now) ∙ n .ensures .1) in
-    let d = length-append (nameOf (a .line .now)) (10 ∷ four (a .k)) in
+    let w = name-written (marked c .before) in let f = from (w .before) in let s = start (f .before) in
+    let e = ap length (is-name f) in
+    let d = length-append (nameOf (line f)) (10 ∷ four (s .args .k)) in
     let m = ap length (c .before .mark .ensures) in
-    let v = w .ensures .answer in
-    let u = writes-length _ _ _ _ _ (w .ensures) in
+    let v = w .copy .ensures .answer in
+    let u = writes-length _ _ _ _ _ (w .copy .ensures) in
     omega (arith, s .pre)
-
-same-length : tie.Need-same-length
-same-length c = search needs
 
 returns : tie.Need-returns
 returns c =
-    let s = c .before .before .before .before .before .before .before .before .before .before .before .before .before .before in
-    let a = s .args in
-    let n = c .before .before .before .before .before .before .before .before .before .before .before .name-at in
-    let w = c .before .before .before .before .before .before .before .before .copy in
-    let v = c .before .before .copy2 in
-    let e = rest-all (n .result) (a .line .now) ∙ n .ensures .1 in
-    let m = c .before .before .before .before .mark .ensures in
-    writes-more _ _ _ _ _ _ _ _ (subst (λ (x : List ℕ). Writes (a .at) x (a .out .now) (w .result) (w .last .0)) e (w .ensures)) (subst (λ (x : List ℕ). Writes (w .result) x (w .last .0) (v .result) (v .last .0)) m (v .ensures))
+    let z = mark-written c in let w = name-written (marked (z .before) .before) in let f = from (w .before) in
+    let a = start (f .before) .args in let x = w .copy in let y = z .copy2 in
+    writes-more _ _ _ _ _ _ _ _
+    (subst (λ (l : List ℕ). Writes (a .at) l (a .out .now) (x .result) (x .last .0)) (is-name f) (x .ensures))
+    (subst (λ (l : List ℕ). Writes (x .result) l (x .last .0) (y .result) (y .last .0)) (z .before .before .mark .ensures) (y .ensures))
 
 pub write-name-spec : {M : Type 1} → statement M
 write-name-spec =
     tie.close
     (tie.spec
-    name-at-requires
-    sub-copy
-    part-copy-start
-    part-copy-end
-    copy-requires
-    mark-requires
-    slice-aggregate-copy
-    copy-requires-2
-    same-length
+    (λ c κs. search needs)
+    (λ c. search needs) (λ c. search needs) (λ c. search needs) copy-requires
+    (λ c κs. search needs) (λ c. search needs) copy-requires-2
+    (λ c. search needs)
     returns)
