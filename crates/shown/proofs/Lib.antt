@@ -1,0 +1,4 @@
+pub mod Numbered
+pub mod Lengths
+pub mod Rest
+pub mod Outcomes
