@@ -18,7 +18,7 @@ ghost use Rattle.printing.specs.Writes.{Writes, lettersOf, lettersMost, 
 // spaces and a newline.
 pub const LINE: usize = 25;
 
-fn write_byte(out: &mut [u8], at: usize, byte: u8) -> usize
+pub fn write_byte(out: &mut [u8], at: usize, byte: u8) -> usize
     requires { ⌜ at < length (now out) ⌝ }
     ensures { λ r. ⌜ Writes at (byte ∷ []) (now (out .entry)) r (now (out .exit)) ⌝ }
 {
@@ -34,7 +34,7 @@ fn digit_of(d: u32) -> u8
 }
 
 // The digits above the last one first.
-fn write_decimal(out: &mut [u8], at: usize, n: u32) -> usize
+pub fn write_decimal(out: &mut [u8], at: usize, n: u32) -> usize
     requires { ⌜ at + length (decimal n) ≤ length (now out) ⌝ }
     ensures { λ r. ⌜ Writes at (decimal n) (now (out .entry)) r (now (out .exit)) ⌝ }
 {
@@ -55,7 +55,7 @@ fn write_number(out: &mut [u8], at: usize, n: u32, mark: u8) -> usize
 }
 
 // A word's letters.
-fn write_letters(out: &mut [u8], at: usize, word: Letters) -> usize
+pub fn write_letters(out: &mut [u8], at: usize, word: Letters) -> usize
     requires { ⌜ (at + lettersMost ≤ length (now out)) × (word .len ≤ lettersMost) ⌝ }
     ensures { λ r. ⌜ Writes at (lettersOf word) (now (out .entry)) r (now (out .exit)) ⌝ }
 {

@@ -1,0 +1,3 @@
+pub mod Shown
+pub mod Parts
+pub mod Cases
