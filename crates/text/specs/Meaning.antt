@@ -8,8 +8,8 @@ use Rattle.text.specs.declared.items.Wanted.{Wanted}
 use Rattle.text.specs.declared.items.Wanted.the-variants.{Room, Text}
 use Rattle.text.specs.declared.items.Item.{Item}
 use Rattle.text.specs.declared.items.Item.the-variants.{Nothing, Header, Steps, Numbers, Named, Refused}
-use Rattle.text.specs.declared.Answer.{Answer}
-use Rattle.text.specs.declared.Answer.the-variants.{Made, Bad}
+use Rattle.text.specs.declared.lines.Answer.{Answer}
+use Rattle.text.specs.declared.lines.Answer.the-variants.{Made, Bad}
 use Rattle.text.specs.Pieces.{lines, bare, behind, numbers}
 use Rattle.text.specs.Items.{item, nameOf, isNamed, isRefused, wantedOf}
 

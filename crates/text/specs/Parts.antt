@@ -9,8 +9,8 @@ use Rattle.text.specs.declared.pieces.Stop.the-variants.{Blank, Letter, 
 use Rattle.text.specs.declared.pieces.Part.{Part}
 use Rattle.book.specs.Choice.{if_then_else_, _≡ᵇ_}
 use Rattle.text.specs.declared.items.Args.{Args}
-use Rattle.text.specs.declared.Answer.{Answer}
-use Rattle.text.specs.declared.Answer.the-variants.{Made, Bad}
+use Rattle.text.specs.declared.lines.Answer.{Answer}
+use Rattle.text.specs.declared.lines.Answer.the-variants.{Made, Bad}
 use Rattle.text.specs.Items.{larger}
 use Rattle.text.specs.Meaning.{Meaning, bytes, refused}
 use Rattle.printing.specs.Writes.{Writes}

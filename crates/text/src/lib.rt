@@ -8,6 +8,7 @@ mod pieces;
 mod writing;
 
 pub use items::Wanted;
+pub use lines::Answer;
 use lines::fill;
 use writing::copy;
 ghost use mathlib.Core.Path.{_≡_};
@@ -15,12 +16,6 @@ ghost use Rattle.text.specs.Meaning.{meaning, outcome};
 
 // Room for the bytes of every text that is taken.
 pub const ROOM: usize = 262144;
-
-// How many bytes were made; or the line, from 1, and what was wanted there. Line 0 is the whole text.
-pub enum Answer {
-    Made(usize),
-    Bad(usize, Wanted),
-}
 
 pub fn bytes_of(text: &[u8], out: &mut [u8; ROOM]) -> Answer
     ensures { λ r. ⌜ (r, now (out .exit)) ≡ outcome (meaning (now (text .entry))) (now (out .entry)) ⌝ }

@@ -1,5 +1,4 @@
 // The lines of a text, one after the other.
-use crate::Answer;
 use crate::items::Item;
 use crate::items::Wanted;
 use crate::items::is_named;
@@ -18,6 +17,12 @@ ghost use Rattle.text.specs.Pieces.{lines};
 ghost use Rattle.text.specs.Items.{isNamed};
 ghost use Rattle.text.specs.Meaning.{section, going};
 ghost use Rattle.text.specs.Parts.{Filled};
+
+// How many bytes were made; or the line, from 1, and what was wanted there. Line 0 is the whole text.
+pub enum Answer {
+    Made(usize),
+    Bad(usize, Wanted),
+}
 
 // How many bytes the lines from `from` on have, up to the next name.
 fn section_from(text: &[u8], from: usize) -> usize

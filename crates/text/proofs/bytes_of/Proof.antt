@@ -5,7 +5,7 @@ use native.Mathlib.Omega.{arith}
 use borrow.Author.Needs.{needs}
 use lib.ListN.{length}
 use lib.Seq.{length-take-le}
-use Rattle.text.specs.declared.Answer.{Answer}
+use Rattle.text.specs.declared.lines.Answer.{Answer}
 use Rattle.text.specs.Meaning.{meaning, Meaning, outcome}
 use Rattle.text.proofs.Whole.{long-text, short-text, made-within, made-outcome, bad-outcome}
 use Rattle.text.proofs.bytes_of.Statement.{statement}
