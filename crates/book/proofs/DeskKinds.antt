@@ -9,12 +9,12 @@ use lib.Dec.{T, nleb→lt}
 use lib.ListN.{get_or, set}
 use Rattle.words.specs.declared.Answer.TheVariants.{Took, Seen, Claimed, Done, Refused}
 use Rattle.words.specs.declared.Refusal.{Refusal}
-use Rattle.words.specs.declared.Refusal.TheVariants.{Lost}
+use Rattle.words.specs.declared.Refusal.TheVariants.{Owned, Nothing, Lost}
 use Rattle.words.specs.Words.{refusal}
 use Rattle.book.specs.Choice.{◌≤ᵇ◌, ◌≡ᵇ◌}
 use Rattle.book.specs.Sizes.{Size, is_used, current_turn, is_owned}
 use Rattle.book.specs.Steps.{DeskStep, look, claim, fetch, finish, Hold, Desk, idle, looked, holding, claimed_at, with_fetched, is_fetched, hold_of}
-use Rattle.book.specs.Verdicts.{Verdict, judge, stage, column, at_stage, no_block, admitted, lookable}
+use Rattle.book.specs.Verdicts.{Verdict, takes, refuses, judge, stage, column, at_stage, no_block, admitted, lookable}
 use Rattle.book.specs.Book.{Book, Outcome, says, hands, refuse, row_at, desk_at, with_desk, mark_gone, put_turn, row_of, first, waits, look_step, winnable, claim_step, fetch_step, finish_step, desk_does, desk_step}
 use Rattle.book.proofs.Choice.{by_test, T→true, and_first, and_second}
 
@@ -27,6 +27,21 @@ abbrev pub Free : Desk ℕ → Type 0
 Free idle = Unit {0}
 Free (looked r) = Unit {0}
 Free (holding h) = ⊥
+
+-- a look is refused, not by LOST, or block c is used, its turn is above K, and a row of it waits
+module _ (z : Size) (p k c : ℕ) where
+  above_k : T (not (is_owned z p k c)) → T (is_used z p c) → k < current_turn z p c
+  unfolding is_owned
+  above_k o u = nleb→lt (current_turn z p c) k (rw (T→true (is_used z p c) u) at o)
+
+  by_look : (w : Bool) (Q : Verdict → Type 0)
+      → ((x : Refusal) → T (not (is_lost x)) → Q (refuses x)) → (k < current_turn z p c → T w → Q takes) → Q (lookable z p k c w)
+  unfolding lookable
+  by_look w Q refused seen =
+      by_test Q (is_owned z p k c) (λ _. refused Owned tt) (λ o.
+      by_test Q (is_used z p c && w)
+      (λ v. seen (above_k o (and_first (is_used z p c) w v)) (and_second (is_used z p c) w v))
+      (λ _. refused Nothing tt))
 
 module _ (z : Size) (b : Book) (P : Outcome → Type 0) where
   pub record Kinds : Type 0 where
@@ -46,16 +61,13 @@ module _ (z : Size) (b : Book) (P : Outcome → Type 0) where
 
     module _ (d : ℕ) (i : d < z.t) where
       look_kind : (c : ℕ) → Free (desk_at b d) → P (look_step z b d c)
-      unfolding look_step lookable is_owned
+      unfolding look_step
       look_kind c free =
           let p = put_turn z b.rows in
           let t = current_turn z p c in
-          let u = is_used z p c in
-          let w = waits z b.rows t in
-          by_test (Judged _) (is_owned z p b.k c) (λ _. k.refused _ tt) (λ o.
-          by_test (Judged _) (u && w)
-          (λ v. k.seen d t i free (nleb→lt t b.k (rw (T→true u (and_first u w v)) at o)) (and_second u w v))
-          (λ _. k.refused _ tt))
+          let place = first z b.rows t in
+          by_look z p b.k c (waits z b.rows t) (Judged (says (with_desk b d (looked (row_of z t place))) (Seen place)))
+          k.refused (λ above w. k.seen d t i free above w)
 
       -- the desk that wins holds row n, which is the row seen
       won_kind : (r n : ℕ) → n ≡ r → desk_at b d ≡ looked r → T (winnable z b.rows b.k r)
