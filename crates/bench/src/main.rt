@@ -39,7 +39,7 @@ const FINISH: u8 = 48;
 const LOOK: u8 = 64;
 
 // What a loop adds up.
-#[derive(Drop)]
+#[derive(Clone, Copy)]
 struct Total {
     sum: u64,
     refused: u64,

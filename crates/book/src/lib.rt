@@ -8,7 +8,7 @@
 use words::Refusal;
 
 // What a desk does. A look names its block.
-#[derive(Drop)]
+#[derive(Clone, Copy)]
 pub enum DeskStep {
     Look(u32),
     Claim,
@@ -17,7 +17,7 @@ pub enum DeskStep {
 }
 
 // What a code asks for.
-#[derive(Drop)]
+#[derive(Clone, Copy)]
 pub enum Deed {
     Put(u32),
     Get,
@@ -27,7 +27,7 @@ pub enum Deed {
 }
 
 // What the tests before a step say.
-#[derive(Drop)]
+#[derive(Clone, Copy)]
 pub enum Verdict {
     Takes,
     Refuses(Refusal),

@@ -15,7 +15,7 @@ use line::{Block, Desk, Head, Opening};
 use words::Answer;
 
 // What a step or an order gives: the answer, the head and the table.
-#[derive(Drop)]
+#[derive(Clone, Copy)]
 pub struct Outcome {
     pub answer: Answer,
     pub head: Head,
@@ -23,7 +23,7 @@ pub struct Outcome {
 }
 
 // What opening gives.
-#[derive(Drop)]
+#[derive(Clone, Copy)]
 pub struct OpeningOutcome {
     pub answer: Opening,
     pub head: Head,

@@ -8,7 +8,7 @@ use words::Answer;
 
 // What opening, a step and an order answer: the paper's number of the refusal, or 0 where there is none, and the value.
 #[repr(C)]
-#[derive(Drop)]
+#[derive(Clone, Copy)]
 pub struct Reply {
     pub number: u32,
     pub value: u32,
@@ -16,7 +16,7 @@ pub struct Reply {
 
 // What the check answers: 0 sound, 1 UNFIT, 2 DAMAGED with the place and the rule, which are 0 otherwise.
 #[repr(C)]
-#[derive(Drop)]
+#[derive(Clone, Copy)]
 pub struct CheckReply {
     pub number: u32,
     pub place: u32,
@@ -25,7 +25,7 @@ pub struct CheckReply {
 
 // What the survey answers: 0, or 1 UNFIT, or 2 DAMAGED; the mask, how many blocks, and the lowest.
 #[repr(C)]
-#[derive(Drop)]
+#[derive(Clone, Copy)]
 pub struct SurveyReply {
     pub mask: u64,
     pub number: u32,

@@ -6,7 +6,7 @@ use line::{Block, Head, Opening};
 use words::Answer;
 
 // What a step answers, and the line afterwards; its entries are changed in place.
-#[derive(Drop)]
+#[derive(Clone, Copy)]
 pub struct Stepped {
     pub answer: Answer,
     pub head: Head,
@@ -14,7 +14,7 @@ pub struct Stepped {
 }
 
 // What opening answers, and the line afterwards.
-#[derive(Drop)]
+#[derive(Clone, Copy)]
 pub struct Opened {
     pub answer: Opening,
     pub head: Head,

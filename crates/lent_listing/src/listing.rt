@@ -1,6 +1,6 @@
 // The paper's listing, on a line of 2 blocks of 2 entries for 2 desks.
 
-#[derive(Drop)]
+#[derive(Clone, Copy)]
 pub struct Message {
     pub code: u8,
     pub a: u32,

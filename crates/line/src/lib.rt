@@ -9,7 +9,7 @@ use words::Answer;
 
 // A desk: stage 0 is idle, 1 looked, 2 claimed, 3 fetched. An idle desk's turn and place are not read.
 #[repr(C)]
-#[derive(Drop)]
+#[derive(Clone, Copy)]
 pub struct Desk {
     pub stage: u16,
     pub place: u16,
@@ -17,7 +17,7 @@ pub struct Desk {
 }
 
 #[repr(C)]
-#[derive(Drop)]
+#[derive(Clone, Copy)]
 pub struct Block {
     pub round: u16,
     pub written: u16,
@@ -26,7 +26,7 @@ pub struct Block {
 }
 
 #[repr(C)]
-#[derive(Drop)]
+#[derive(Clone, Copy)]
 pub struct Head {
     pub nb: u16,
     pub ne: u16,
@@ -38,7 +38,7 @@ pub struct Head {
 }
 
 // Where a label goes: turn, block and place; and the record that the block has after it.
-#[derive(Drop)]
+#[derive(Clone, Copy)]
 pub struct Room {
     pub turn: u32,
     pub block: usize,
@@ -47,7 +47,7 @@ pub struct Room {
 }
 
 // What a desk's step leaves: the answer, the desk, and the record of the block that the step read.
-#[derive(Drop)]
+#[derive(Clone, Copy)]
 pub struct Moved {
     pub answer: Answer,
     pub desk: Desk,
@@ -55,14 +55,14 @@ pub struct Moved {
 }
 
 // What opening answers.
-#[derive(Drop)]
+#[derive(Clone, Copy)]
 pub enum Opening {
     Open,
     Unfit,
 }
 
 // What the check answers: sound, UNFIT, or the place and the rule.
-#[derive(Drop)]
+#[derive(Clone, Copy)]
 pub enum Checked {
     Sound,
     Unfit,
@@ -70,14 +70,14 @@ pub enum Checked {
 }
 
 // What the survey answers, and gives.
-#[derive(Drop)]
+#[derive(Clone, Copy)]
 pub enum Surveyed {
     Survey,
     Unfit,
     Damaged,
 }
 
-#[derive(Drop)]
+#[derive(Clone, Copy)]
 pub struct Findings {
     pub answer: Surveyed,
     pub mask: u64,

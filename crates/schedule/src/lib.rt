@@ -14,7 +14,7 @@ pub const STEP: usize = 9;
 pub const STEPS: usize = (LIMIT - HEADER) / STEP;
 
 // Every message from a press is one step.
-#[derive(Drop)]
+#[derive(Clone, Copy)]
 pub struct Message {
     pub code: u8,
     pub a: u32,

@@ -18,7 +18,7 @@ use whole::write_text;
 pub const ROOM: usize = 262144;
 
 // The text's length; or the player's word for a schedule that it refuses.
-#[derive(Drop)]
+#[derive(Clone, Copy)]
 pub enum Shown {
     Text(usize),
     Long,

@@ -9,7 +9,7 @@ use schedule::Message;
 use words::{Letters, spelt};
 
 // A word, and the first `count` of eight numbers.
-#[derive(Drop)]
+#[derive(Clone, Copy)]
 pub struct Line {
     pub word: Letters,
     pub numbers: [u32; 8],

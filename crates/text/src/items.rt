@@ -7,7 +7,7 @@ ghost use Rattle.text.specs.Parts.{more};
 
 use crate::pieces::{Stop, number_of, same_bytes, span_of, word_at};
 
-#[derive(Drop)]
+#[derive(Clone, Copy)]
 pub enum Kind {
     IsStep,
     IsSize,
@@ -18,7 +18,7 @@ pub enum Kind {
 }
 
 // What was wanted where a line is refused: the form that its first word has; a line of any form; or less.
-#[derive(Drop)]
+#[derive(Clone, Copy)]
 pub enum Wanted {
     Size,
     Put,
@@ -38,7 +38,7 @@ pub enum Wanted {
 }
 
 // A step's code, whether a number of at most `most` is added to it, and how many numbers follow.
-#[derive(Drop)]
+#[derive(Clone, Copy)]
 pub struct Form {
     pub kind: Kind,
     pub code: u8,
@@ -49,7 +49,7 @@ pub struct Form {
 }
 
 // How many numbers a line has, the largest of them, and the first three.
-#[derive(Drop)]
+#[derive(Clone, Copy)]
 pub struct Args {
     pub count: usize,
     pub most: u64,
@@ -58,7 +58,7 @@ pub struct Args {
     pub c: u64,
 }
 
-#[derive(Drop)]
+#[derive(Clone, Copy)]
 pub enum Item {
     Nothing,
     Header {

@@ -10,7 +10,7 @@ use crate::pieces::line_at;
 use crate::writing::{size_of, write_item};
 
 // How many bytes were made; or the line, from 1, and what was wanted there. Line 0 is the whole text.
-#[derive(Drop)]
+#[derive(Clone, Copy)]
 pub enum Answer {
     Made(usize),
     Bad(usize, Wanted),

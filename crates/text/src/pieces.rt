@@ -5,7 +5,7 @@ ghost use Rattle.text.specs.Pieces.{span, same, value, bare_length};
 ghost use Rattle.text.specs.Parts.{passes, WordAt, LineAt};
 
 // Which bytes a run is made of: blanks, letters, or all that stand in a line.
-#[derive(Drop)]
+#[derive(Clone, Copy)]
 pub enum Stop {
     Blank,
     Letter,
@@ -13,7 +13,7 @@ pub enum Stop {
 }
 
 // A part of a slice.
-#[derive(Drop)]
+#[derive(Clone, Copy)]
 pub struct Part {
     pub from: usize,
     pub to: usize,

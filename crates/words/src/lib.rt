@@ -9,7 +9,7 @@ ghost use Rattle.words.specs.Promises.{Numbered, Valued, Worded};
 ghost use Rattle.words.specs.Words.{Refused};
 
 // The paper's table of refusals, in its order.
-#[derive(Drop)]
+#[derive(Clone, Copy)]
 pub enum Refusal {
     Unfit,
     Damaged,
@@ -29,7 +29,7 @@ pub enum Refusal {
 }
 
 // A refusal's value is 0, except for an order's: the labels that it had placed.
-#[derive(Drop)]
+#[derive(Clone, Copy)]
 pub enum Answer {
     Put(u32),
     Got(u32),
@@ -42,7 +42,7 @@ pub enum Answer {
 }
 
 // The letters of a word, and zeros behind them.
-#[derive(Drop)]
+#[derive(Clone, Copy)]
 pub struct Letters {
     pub bytes: [u8; 8],
     pub len: u8,

@@ -12,7 +12,7 @@ const PUT: u8 = 0;
 const GET: u8 = 1;
 
 // What the line came to: the labels placed, and the first put's answer that was no PUT.
-#[derive(Drop)]
+#[derive(Clone, Copy)]
 struct Worn {
     placed: u32,
     last: Answer,
