@@ -1,3 +1,5 @@
+#![tactic(auto)]
+
 // Texts on standard input, one behind the other, a byte 0 behind each: each is printed, and what is said of it.
 ghost use Rattle.std.specs.Prelude.{◌≤◌, length};
 

@@ -1,3 +1,5 @@
+#![tactic(auto)]
+
 // A benchmark of the engine: a million steps of a fixed mixed schedule through engine::step::step,
 // at 8 x 64 and at 64 x 64 with 16 desks, and beside them a loop that only makes the same steps.
 //

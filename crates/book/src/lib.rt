@@ -1,3 +1,5 @@
+#![tactic(auto)]
+
 // The book: what a right answer is. Definitions and theorems; of code only the types that every floor above shares.
 //
 // specs/Book.antt is the paper's section "The book", sentence by sentence; specs/Sizes.antt and

@@ -1,3 +1,5 @@
+#![tactic(auto)]
+
 // A line by value: the head, a table of 64 records of which the first n were lent, and the entries, which
 // are changed in place.
 //

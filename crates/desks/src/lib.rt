@@ -1,3 +1,5 @@
+#![tactic(auto)]
+
 // The desks' steps by value, on a line that the check has found sound: look, claim, fetch and finish.
 //
 // A step reads one desk and one record, and changes no other. The parts take numbers, the desk and the record,

@@ -1,3 +1,5 @@
+#![tactic(auto)]
+
 // The paper's listing through the portal's own calls: head, table and entries are lent to `portal::open` and
 // `portal::step`, and every answer, and all that was lent, is compared after each call with what the engine gives by
 // value. Prints the portal's answers, and how many steps agreed.

@@ -1,3 +1,5 @@
+#![tactic(auto)]
+
 // The line: its records, and what each call means on them. Definitions and theorems; of code only the types.
 //
 // The records are numbers only, so that a portal lends its own memory. specs/Line.antt has the

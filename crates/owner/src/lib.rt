@@ -1,3 +1,5 @@
+#![tactic(auto)]
+
 // The owner's steps by value, on a line that the check has found sound: put, order and get.
 //
 // Only these three take the head and the table. Their parts take numbers and records, and promise what the

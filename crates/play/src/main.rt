@@ -1,3 +1,5 @@
+#![tactic(auto)]
+
 // Plays the schedule on standard input, and prints its lines on standard output.
 use libc::{STDIN_FILENO, STDOUT_FILENO};
 

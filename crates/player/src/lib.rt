@@ -1,3 +1,5 @@
+#![tactic(auto)]
+
 // The schedule player: a schedule's bytes in, the printed lines out.
 //
 // `play` takes the whole schedule, of any length, and writes its text to the front of `out`. What playing

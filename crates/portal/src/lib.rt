@@ -1,3 +1,5 @@
+#![tactic(auto)]
+
 // The portal: what the firm's portal calls.
 //
 // A portal keeps three things for each press and lends them with every call: the head, the table of NB

@@ -1,3 +1,5 @@
+#![tactic(auto)]
+
 // Printed lines: a number, a word and a value in decimal, with a space between, and a newline. Each
 // function writes into `out` from a place on, and answers the place behind what it wrote; what is written
 // stands in specs/Text.antt, and how in specs/Writes.antt.

@@ -1,3 +1,5 @@
+#![tactic(auto)]
+
 // What a person is told of a text that is refused: the line, and what was wanted there.
 use text::Wanted;
 

@@ -1,3 +1,5 @@
+#![tactic(auto)]
+
 // Where turns stand: round the NB blocks, turn t in block t mod NB.
 //
 // Block `last` is P's own, p mod nb, which a caller makes once. Any other block stands as many blocks back from it, round

@@ -1,3 +1,5 @@
+#![tactic(auto)]
+
 // The rules of a sound line, and the check, by value. `head`, `desks` and `blocks` have the rules one by one, over the
 // numbers, the desk or the record that each reads; `check` asks them in their order of a head and of the table's lent
 // records, whatever numbers stand there.

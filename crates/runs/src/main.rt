@@ -1,3 +1,5 @@
+#![tactic(auto)]
+
 // The runs that are not proved as cases: the schedules of the folder schedules/, those of "Either side of
 // the line", and those at the limits of a schedule and of its numbers. WORN takes more steps than a
 // schedule has: see `worn`.

@@ -1,3 +1,5 @@
+#![tactic(auto)]
+
 // A schedule's bytes: a header of eight, then nine for each step. What they mean stands in
 // specs/Bytes.antt, and `reading` reads it off them: whether a schedule is too long, whether it has its
 // header, how many whole steps follow, and each of them.

@@ -1,3 +1,5 @@
+#![tactic(auto)]
+
 // A schedule as text: bytes to text.
 //
 // `text_of` takes bytes of any kind. What the player would play is written as text to the front of `out`; of

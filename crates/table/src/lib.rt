@@ -1,3 +1,5 @@
+#![tactic(auto)]
+
 // The block table, as the portal lends it: a slice of records in block order. `count`, `record_at` and `replace` are
 // the thin functions that read or replace a record; `load` and `store` go over the table with them, between the lent
 // slice and the table of 64 records that the engine takes by value.

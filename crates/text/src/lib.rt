@@ -1,3 +1,5 @@
+#![tactic(auto)]
+
 // A schedule as text: text to bytes.
 //
 // `bytes_of` takes a text of any bytes and writes what it means to the front of `out`, or says which line is

@@ -1,3 +1,5 @@
+#![tactic(auto)]
+
 // The bytes of the schedule whose text is on standard input, on standard output. A text that is refused is told on
 // standard error, and nothing is written on standard output.
 use libc::{STDERR_FILENO, STDIN_FILENO, STDOUT_FILENO};

@@ -1,3 +1,5 @@
+#![tactic(auto)]
+
 // The text of the schedule whose bytes are on standard input, on standard output. Of a schedule that the player refuses
 // the player's line is told on standard error, and nothing is written on standard output.
 use libc::{STDERR_FILENO, STDIN_FILENO, STDOUT_FILENO};

@@ -1,3 +1,5 @@
+#![tactic(auto)]
+
 // The answers of a line, in the paper's words.
 //
 // A step that is taken answers PUT, GOT, TOOK, WHOLE, SEEN, CLAIMED or DONE; a step that is not

@@ -1,3 +1,5 @@
+#![tactic(auto)]
+
 // A small line until it is worn: 2 blocks of 1 entry, put and get by turns. A schedule has too few steps for it.
 ghost use Rattle.std.specs.Prelude.{◌≤◌};
 
