@@ -17,14 +17,14 @@ block_read-i-requires c = blocks _ _ _ c.requires
 pub bounds-records-i : goal.bounds-records-i
 bounds-records-i c = few_in _ _ _ c.requires _ _ c.if-h-d.false (sym c.in-Takes.ensures) _ c.block_read-i.ensures
 
-pub take-m-requires-clause-le_nb : goal.take-m-requires-clause-le_nb
-take-m-requires-clause-le_nb c =
+pub take-m-requires-clause-in_range : goal.take-m-requires-clause-in_range
+take-m-requires-clause-in_range c =
     let b = blocks _ _ _ c.requires in
     let q = record_few _ _ _ c.requires _ (block_in _ _ _ c.requires _ _ c.if-h-d.false (sym c.in-Takes.ensures) _ c.block_read-i.ensures) in
     (b.0, b.1, omega arith, omega arith)
 
-pub take-m-requires-clause-by_index : goal.take-m-requires-clause-by_index
-take-m-requires-clause-by_index c =
+pub take-m-requires-clause-by_step : goal.take-m-requires-clause-by_step
+take-m-requires-clause-by_step c =
     let e = sym c.in-Takes.ensures in
     let q = c.block_read-i.ensures in
     (look_in _ _ _ c.requires _ _ c.if-h-d.false e _ q, fetch_in _ _ _ c.requires _ _ c.if-h-d.false e _ q)

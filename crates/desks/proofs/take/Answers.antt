@@ -17,7 +17,7 @@ pub returns-in-Fetch : goal.returns-in-Fetch
 unfolding moved_by label_at entry_of
 returns-in-Fetch c =
     let e = c.in-Fetch.is in
-    rw e (c.fetch.ensures ∙ rw (c.read_label.ensures, (c.requires.by_index.1 e).0) refl)
+    rw e (c.fetch.ensures ∙ rw (c.read_label.ensures, (c.requires.by_step.1 e).0) refl)
 
 pub returns-in-Finish : goal.returns-in-Finish
 unfolding moved_by
