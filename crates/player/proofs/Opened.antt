@@ -1,4 +1,5 @@
 -- The line that is played on: what opening gives over the store, and what a step leaves, lent again.
+use Rattle.std.specs.Prelude.{if◌then◌else◌}
 use mathlib.Core.Path.{◌≡◌, refl, sym, ap, subst⁻¹, ◌∙◌}
 use mathlib.Core.Bool.{false}
 use mathlib.Core.List.{List}
@@ -8,7 +9,6 @@ use lib.Dec.{T, ltb, ltb→lt, nltb→le}
 use lib.ListN.{length, drop, replicate, length-replicate}
 use lib.Seq.{take_at}
 use Rattle.words.specs.declared.Answer.{Answer}
-use Rattle.book.specs.Choice.{if◌then◌else◌}
 use Rattle.book.specs.Sizes.{Size, fits}
 use Rattle.book.specs.Steps.{Step}
 use Rattle.book.proofs.Choice.{by_test, cases, choose_true, choose_false, T→true, not→false, eqb_same, le→true}
