@@ -9,7 +9,6 @@ use lib.ListN.{length, length-append}
 use Rattle.words.specs.declared.Answer.{Answer}
 use Rattle.book.specs.Sizes.{fits}
 use Rattle.book.specs.Steps.{Step}
-use Rattle.book.specs.Book as B
 use Rattle.book.proofs.Choice.{and_first, and_second, T→true, not→false}
 use Rattle.line.specs.Line.{Line, opened}
 use Rattle.line.specs.Calls.{step, answers}
