@@ -8,4 +8,5 @@ pub slice_bounds-out-end : goal.slice_bounds-out-end
 slice_bounds-out-end c = text_room _ _ _ _ _ c.text_of-answer.ensures c.in-Text.is
 
 pub slice_bounds-write_all-end : goal.slice_bounds-write_all-end
-slice_bounds-write_all-end c = sym (length-take-le _ _ (slice_bounds-out-end c))
+slice_bounds-write_all-end c =
+    sym (length-take-le _ _ (text_room _ _ _ _ _ c.text_of-answer.ensures c.in-Text.is))
