@@ -117,6 +117,7 @@ fn other_form(kind: Kind, wanted: Wanted) -> Form
 }
 
 // The form that a first word has.
+#[tactic(auto, unfolding(crate::specs::Items::form_of))]
 fn form_of(word: &[u8]) -> Form
     ensures { result ≡ form_of word.now }
 {
@@ -148,6 +149,7 @@ fn form_of(word: &[u8]) -> Form
 }
 
 // The form of a first word that names no step.
+#[tactic(auto, unfolding(crate::specs::Items::other_form_of))]
 fn other_form_of(word: &[u8]) -> Form
     ensures { result ≡ other_form_of word.now }
 {
@@ -218,6 +220,7 @@ pub fn args_from(line: &[u8], at: usize) -> Args
     r
 }
 
+#[tactic(auto, unfolding(crate::specs::Items::step_item))]
 fn step_item(f: Form, r: Args, times: u32) -> Item
     ensures { result ≡ step_item f r times }
 {
@@ -247,6 +250,7 @@ fn step_item(f: Form, r: Args, times: u32) -> Item
     Item::Refused(wanted)
 }
 
+#[tactic(auto, unfolding(crate::specs::Items::size_item))]
 fn size_item(r: Args) -> Item
     ensures { result ≡ size_item r }
 {
@@ -260,6 +264,7 @@ fn size_item(r: Args) -> Item
     Item::Refused(Wanted::Size)
 }
 
+#[tactic(auto, unfolding(crate::specs::Items::bytes_item))]
 fn bytes_item(r: Args) -> Item
     ensures { result ≡ bytes_item r }
 {

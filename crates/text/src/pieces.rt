@@ -111,6 +111,7 @@ pub fn number_of(word: &[u8]) -> u64
 }
 
 // A line's length without a carriage return at its end.
+#[tactic(auto, using(crate::proofs::FirstLine::bare_none), unfolding(crate::specs::Pieces::bare_length))]
 fn bare_length(line: &[u8]) -> usize
     ensures { (result ≡ bare_length line.now) × (result ≤ length line.now) }
 {
