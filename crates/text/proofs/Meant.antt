@@ -1,13 +1,13 @@
 -- What a line asks for, part by part: the words that were found are the definition's.
-use mathlib.Core.Path.{◌≡◌, refl, sym, ap, subst, ◌∙◌}
-use mathlib.Core.Bool.{Bool, true, false}
-use mathlib.Core.List.{List, [], ◌∷◌}
-use Prim.Native.Nat.{ℕ, zero, suc, ◌+◌, ◌-◌, ◌≤◌, ◌<◌}
+use mathlib.Core.Path.{◌≡◌, refl, sym, ap, ◌∙◌}
+use mathlib.Core.Bool.{true, false}
+use mathlib.Core.List.{List}
+use Prim.Native.Nat.{ℕ, ◌+◌, ◌-◌, ◌≤◌, ◌<◌}
 use native.Mathlib.Nat.{add-zero}
 use native.Mathlib.Omega.{arith}
-use lib.ListN.{length, get_or, take, drop, drop_of_length-le, length-drop}
+use lib.ListN.{length, get_or, drop, drop_of_length-le, length-drop}
 use lib.Seq.{get_or-take, get_or-drop}
-use Rattle.book.proofs.Choice.{le→true, gt→false, eqb_same, neq→eqb}
+use Rattle.book.proofs.Choice.{le→true, gt→false, neq→eqb}
 use Rattle.text.specs.declared.pieces.Part.{Part}
 use Rattle.text.specs.declared.items.Kind.{Kind}
 use Rattle.text.specs.declared.items.Form.{Form}

@@ -2,14 +2,14 @@
 use mathlib.Core.Path.{◌≡◌, refl, sym, ap, subst, ◌∙◌}
 use mathlib.Core.Bool.{Bool, true, false, not, ◌&&◌}
 use mathlib.Core.List.{List, [], ◌∷◌}
-use Prim.Native.Nat.{ℕ, zero, suc, ◌+◌, ◌-◌, ◌*◌, ◌≤◌, ◌<◌}
+use Prim.Native.Nat.{ℕ, suc, ◌+◌, ◌-◌, ◌*◌, ◌≤◌, ◌<◌}
 use native.Mathlib.Numerals.{add-one}
 use native.Mathlib.Omega.{arith}
 use lib.Dec.{T, leb, leb→le, le→leb}
 use lib.ListN.{length, get_or, drop, drop_of_length-le}
 use lib.Seq.{drop-cons}
 use Rattle.book.specs.Total.{all}
-use Rattle.book.proofs.Choice.{cases, choose_true, choose_false, not→false, and_first, and_second, and_in}
+use Rattle.book.proofs.Choice.{cases, choose_true, choose_false, and_first, and_second, and_in}
 use Rattle.printing.specs.Decimal.{read_from, is_digit}
 use Rattle.text.specs.Pieces.{is_none, greatest, is_number, value}
 

@@ -1,5 +1,5 @@
 -- The bytes of the lines passed are written, and the lines left decide.
-use Rattle.std.proofs.Common.{◌≡◌, ◌+◌, ◌-◌, ◌≤◌, length}
+use Rattle.std.proofs.Common.{◌+◌, ◌-◌, ◌≤◌, length}
 use Rattle.text.proofs.Whole.{Going}
 use Rattle.text.proofs.lines.fill.Given as goal
 

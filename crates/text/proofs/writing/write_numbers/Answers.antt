@@ -1,4 +1,3 @@
-use Rattle.std.proofs.Common.{arith}
 use Rattle.text.proofs.Words.{numbers_end}
 use Rattle.text.proofs.Stored.{noted_all, noted_end, noted_room, noted_more}
 use Rattle.text.proofs.writing.write_numbers.Goals as goal
