@@ -1,5 +1,5 @@
 -- The bytes are made in a room of their own, and copied where the text is not refused.
-use Rattle.std.proofs.Common.{refl, sym, ap, ◌∙◌}
+use Rattle.std.proofs.Common.{refl, sym, ap, ◌∙◌, rules}
 use lib.Seq.{length-take-le}
 use Rattle.text.specs.Meaning.{Meaning, outcome}
 use Rattle.text.proofs.Whole.{long_text, short_text, made_within, made_outcome, bad_outcome}
@@ -7,6 +7,9 @@ use Rattle.text.proofs.bytes_of.Goals as goal
 
 pub returns-then-text-gt262144 : goal.returns-then-text-gt262144
 returns-then-text-gt262144 c = long_text _ _ c.if-text-gt262144.true
+
+pub fill-r-requires : goal.fill-r-requires
+fill-r-requires c = (c.if-text-gt262144.false, search rules)
 
 -- what is copied stands in the room
 pub slice_bounds-room-end : goal.slice_bounds-room-end
