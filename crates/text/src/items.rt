@@ -275,6 +275,7 @@ fn bytes_item(r: Args) -> Item
 }
 
 // The step that stands behind `times` and its number.
+#[tactic(auto, unfolding(crate::specs::Items::times_item))]
 fn times_item(line: &[u8], at: usize) -> Item
     requires { (at ≤ length line.now) × (length line.now ≤ 262144) }
     ensures { result ≡ times_item (drop at line.now) }
@@ -337,6 +338,7 @@ fn item_by(line: &[u8], to: usize, f: Form) -> Item
 }
 
 // What a line asks for.
+#[tactic(auto, unfolding(crate::specs::Items::item))]
 pub fn item_of(line: &[u8]) -> Item
     requires { length line.now ≤ 262144 }
     ensures { result ≡ item line.now }
