@@ -3,7 +3,8 @@
 // Texts on standard input, one behind the other, a byte 0 behind each: each is printed, and what is said of it.
 ghost use Rattle.std.specs.Prelude.{◌≤◌, length};
 
-use libc::{STDIN_FILENO, STDOUT_FILENO};
+use host::read_full;
+use std::io;
 use text::Answer;
 
 // Where the text that starts at `at` ends.
@@ -22,31 +23,29 @@ fn text_end(input: &[u8], at: usize) -> usize
 }
 
 // A text, and the line that is refused, or how many bytes it has.
-fn answer_one(t: &[u8]) {
+fn answer_one(rt: &impl Print, t: &[u8]) -> io::Result<()> {
     let mut out = [0u8; text::ROOM];
-    io::write_all(STDOUT_FILENO, t);
-    io::write_all(STDOUT_FILENO, b"\n=> ");
+    rt.write_all(t)?;
+    rt.write_all(b"\n=> ")?;
     let answer = text::bytes_of(t, &mut out);
     match answer {
-        Answer::Made(n) => {
-            io::print_decimal(STDOUT_FILENO, n as u64);
-            io::write_all(STDOUT_FILENO, b" bytes\n");
-        }
-        Answer::Bad(line, w) => refusals::say(STDOUT_FILENO, line, w),
+        Answer::Made(n) => println!(rt; "{n} bytes"),
+        Answer::Bad(line, w) => refusals::say(rt, line, w),
     }
 }
 
-fn answer_all(input: &[u8]) {
+fn answer_all(rt: &impl Print, input: &[u8]) -> io::Result<()> {
     let mut at = 0;
     while at < input.len() {
         let end = text_end(input, at);
-        answer_one(&input[at..end]);
+        answer_one(rt, &input[at..end])?;
         at = end + 1;
     }
+    Ok(())
 }
 
-fn main() {
+fn main(rt: HostRuntime) -> io::Result<()> {
     let mut input = [0u8; 65536];
-    let n = io::read_full(STDIN_FILENO, &mut input);
-    answer_all(&input[..n]);
+    let n = read_full(&mut rt.stdin(), &mut input)?;
+    answer_all(&rt, &input[..n])
 }

@@ -3,17 +3,17 @@
 // A benchmark of the engine: a million steps of a fixed mixed schedule through engine::step::step,
 // at 8 x 64 and at 64 x 64 with 16 desks, and beside them a loop that only makes the same steps.
 //
-// `rt check bench` proves the program, builds target/bin/bench, runs it and compares its standard
+// `rt run` in this folder proves the program, builds out/bench and runs it; `rt ci` compares its standard
 // output: for each size a checksum of the answers, and how many of them were refusals. The CPU times
-// go to standard error: run target/bin/bench, or read target/log/bench.stderr. They mean something
-// only where the program runs without an emulator.
+// go to standard error.
 ghost use Rattle.std.specs.Prelude.{◌≤◌, ◌<◌};
 
 use byvalue::{no_head, no_table};
 use engine::opening::open;
 use engine::step::step;
-use libc::{STDERR_FILENO, STDOUT_FILENO};
 use schedule::Message;
+use std::io;
+use std::time::CpuClock;
 use words::{number, value};
 
 const STEPS: u32 = 1000000;
@@ -47,9 +47,9 @@ struct Total {
     refused: u64,
 }
 
-fn main() {
-    measure(8);
-    measure(64);
+fn main(rt: HostRuntime) -> io::Result<()> {
+    measure(&rt, 8)?;
+    measure(&rt, 64)
 }
 
 // The desk of step i's cycle of sixteen.
@@ -169,63 +169,47 @@ fn run_empty(nb: u16) -> u64
 }
 
 // The CPU time so far in microseconds; 0 if there is none to be had.
-fn clock() -> u64 {
-    let t = libc::clock();
-    if t > 0 { t as u64 } else { 0 }
+fn clock(rt: &impl CpuClock) -> u64 {
+    match rt.process_cpu_time() {
+        Ok(t) => u64::try_from(t.as_micros()).unwrap_or(0),
+        Err(_) => 0,
+    }
 }
 
 fn less(x: u64, y: u64) -> u64 {
     if x < y { 0 } else { x - y }
 }
 
-// A text and a number after it.
-fn say(fd: i32, text: &[u8], x: u64) {
-    io::write_all(fd, text);
-    io::print_decimal(fd, x);
-}
-
-// `8 x 64`, at the start of a line.
-fn say_size(fd: i32, nb: u16) {
-    io::print_decimal(fd, nb as u64);
-    say(fd, b" x ", NE as u64);
-}
-
-fn say_total(nb: u16, t: Total) {
-    say_size(STDOUT_FILENO, nb);
-    say(STDOUT_FILENO, b": checksum ", t.sum % PRIME);
-    say(STDOUT_FILENO, b", refused ", t.refused);
-    say(STDOUT_FILENO, b" of ", STEPS as u64);
-    io::write_all(STDOUT_FILENO, b"\n");
+fn say_total(rt: &impl Print, nb: u16, t: Total) -> io::Result<()> {
+    let checksum = t.sum % PRIME;
+    let refused = t.refused;
+    println!(rt; "{nb} x {NE}: checksum {checksum}, refused {refused} of {STEPS}")
 }
 
 // The times in microseconds. A million steps in a thousand microseconds are one nanosecond a step.
-fn say_times(nb: u16, full: u64, empty: u64, sum: u64) {
-    say_size(STDERR_FILENO, nb);
-    say(STDERR_FILENO, b": the engine's loop ", full);
-    say(STDERR_FILENO, b" us, the empty loop ", empty);
-    say(STDERR_FILENO, b" us (checksum ", sum % PRIME);
-    say(
-        STDERR_FILENO,
-        b"), the difference ",
-        less(full, empty) / 1000,
-    );
-    io::write_all(STDERR_FILENO, b" ns a step\n");
+fn say_times(rt: &impl Eprint, nb: u16, full: u64, empty: u64, sum: u64) -> io::Result<()> {
+    let checksum = sum % PRIME;
+    let step = less(full, empty) / 1000;
+    eprint!(rt; "{nb} x {NE}: the engine's loop {full} us, ")?;
+    eprintln!(rt;
+        "the empty loop {empty} us (checksum {checksum}), the difference {step} ns a step"
+    )
 }
 
 // The entries of the largest line.
 const ENTRIES: usize = 4096;
 
 // One size: both loops, timed.
-fn measure(nb: u16)
+fn measure(rt: &(impl CpuClock + Print + Eprint), nb: u16) -> io::Result<()>
     requires { (1 ≤ nb) × (nb ≤ 64) }
 {
     let mut entries = [0u32; ENTRIES];
     let m = (nb as usize) * (NE as usize);
-    let start = clock();
+    let start = clock(rt);
     let total = run(nb, &mut entries[..m]);
-    let middle = clock();
+    let middle = clock(rt);
     let sum = run_empty(nb);
-    let end = clock();
-    say_total(nb, total);
-    say_times(nb, less(middle, start), less(end, middle), sum);
+    let end = clock(rt);
+    say_total(rt, nb, total)?;
+    say_times(rt, nb, less(middle, start), less(end, middle), sum)
 }

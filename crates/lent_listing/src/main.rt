@@ -11,10 +11,10 @@ ghost use Rattle.std.specs.Prelude.{◌<◌};
 ghost use Rattle.printing.specs.Text.{numbers_below};
 
 use byvalue::no_table;
-use libc::STDOUT_FILENO;
 use line::{Block, Desk, Head};
 use listing::listing;
 use printing::{LINE, write_answer};
+use std::io;
 use words::Answer;
 
 // Memory that was used before: opening has something to clear.
@@ -45,16 +45,16 @@ fn used_head() -> Head {
     }
 }
 
-fn print(number: u32, answer: Answer)
+fn print(rt: &impl Print, number: u32, answer: Answer) -> io::Result<()>
     requires { number < numbers_below }
 {
     let mut out = [0u8; LINE];
     let n = write_answer(&mut out, 0, number, answer);
-    io::write_all(STDOUT_FILENO, &out[..n]);
+    rt.write_all(&out[..n])
 }
 
 // Plays the listing both ways, and prints the answers: how many of its steps agreed.
-fn play() -> u32 {
+fn play(rt: &impl Print) -> io::Result<u32> {
     let steps = listing();
     let block = used_block();
     let mut lent_entries = [9u32; 4];
@@ -74,7 +74,7 @@ fn play() -> u32 {
     if !same::opening(lent_opening, opening)
         | !same::line(lent_head, lent_table, &lent_entries, head, table, &entries)
     {
-        io::write_all(STDOUT_FILENO, b"the openings differ\n");
+        rt.write_all(b"the openings differ\n")?;
     }
     let mut agreed = 0;
     let mut i = 0;
@@ -89,18 +89,17 @@ fn play() -> u32 {
         head = held.head;
         table = held.table;
         i = i + 1;
-        print(i as u32, lent_answer);
+        print(rt, i as u32, lent_answer)?;
         if same::answer(lent_answer, answer)
             & same::line(lent_head, lent_table, &lent_entries, head, table, &entries)
         {
             agreed = agreed + 1;
         }
     }
-    agreed
+    Ok(agreed)
 }
 
-fn main() {
-    let agreed = play();
-    io::print_decimal(STDOUT_FILENO, agreed as u64);
-    io::write_all(STDOUT_FILENO, b" of 20 steps agreed\n");
+fn main(rt: HostRuntime) -> io::Result<()> {
+    let agreed = play(&rt)?;
+    println!(rt; "{agreed} of 20 steps agreed")
 }

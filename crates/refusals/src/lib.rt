@@ -1,34 +1,33 @@
 #![tactic(auto)]
 
 // What a person is told of a text that is refused: the line, and what was wanted there.
+use std::io;
 use text::Wanted;
 
 // What was wanted.
-pub fn say_wanted(fd: i32, w: Wanted) {
+pub fn say_wanted(to: &impl Print, w: Wanted) -> io::Result<()> {
     match w {
-        Wanted::Size => io::write_all(fd, b"size NB NE T, each of 0 to 255"),
-        Wanted::Put => io::write_all(fd, b"put A"),
-        Wanted::Get => io::write_all(fd, b"get, and nothing behind it"),
-        Wanted::Order => io::write_all(fd, b"order A B"),
-        Wanted::Look => io::write_all(fd, b"look DESK BLOCK, with a desk of 0 to 15"),
-        Wanted::Claim => io::write_all(fd, b"claim DESK, with a desk of 0 to 15"),
-        Wanted::Fetch => io::write_all(fd, b"fetch DESK, with a desk of 0 to 15"),
-        Wanted::Finish => io::write_all(fd, b"finish DESK, with a desk of 0 to 15"),
-        Wanted::Step => io::write_all(fd, b"step CODE A B, with a code of 0 to 255"),
-        Wanted::Bytes => io::write_all(fd, b"bytes X Y .., each of 0 to 255"),
-        Wanted::Times => io::write_all(fd, b"times N and a step"),
-        Wanted::Name => io::write_all(fd, b"= NAME"),
-        Wanted::Line => io::write_all(fd, b"a step, size, bytes, times, = or #"),
-        Wanted::Room => io::write_all(fd, b"at most 262144 bytes in all"),
-        Wanted::Text => io::write_all(fd, b"a text of at most 262144 bytes"),
-    };
+        Wanted::Size => to.write_all(b"size NB NE T, each of 0 to 255"),
+        Wanted::Put => to.write_all(b"put A"),
+        Wanted::Get => to.write_all(b"get, and nothing behind it"),
+        Wanted::Order => to.write_all(b"order A B"),
+        Wanted::Look => to.write_all(b"look DESK BLOCK, with a desk of 0 to 15"),
+        Wanted::Claim => to.write_all(b"claim DESK, with a desk of 0 to 15"),
+        Wanted::Fetch => to.write_all(b"fetch DESK, with a desk of 0 to 15"),
+        Wanted::Finish => to.write_all(b"finish DESK, with a desk of 0 to 15"),
+        Wanted::Step => to.write_all(b"step CODE A B, with a code of 0 to 255"),
+        Wanted::Bytes => to.write_all(b"bytes X Y .., each of 0 to 255"),
+        Wanted::Times => to.write_all(b"times N and a step"),
+        Wanted::Name => to.write_all(b"= NAME"),
+        Wanted::Line => to.write_all(b"a step, size, bytes, times, = or #"),
+        Wanted::Room => to.write_all(b"at most 262144 bytes in all"),
+        Wanted::Text => to.write_all(b"a text of at most 262144 bytes"),
+    }
 }
 
 // Which line is refused, and what was wanted there.
-pub fn say(fd: i32, line: usize, w: Wanted) {
-    io::write_all(fd, b"line ");
-    io::print_decimal(fd, line as u64);
-    io::write_all(fd, b": wanted ");
-    say_wanted(fd, w);
-    io::write_all(fd, b"\n");
+pub fn say(to: &impl Print, line: usize, w: Wanted) -> io::Result<()> {
+    print!(to; "line {line}: wanted ")?;
+    say_wanted(to, w)?;
+    to.write_all(b"\n")
 }

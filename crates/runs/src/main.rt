@@ -7,8 +7,9 @@ mod shelf;
 
 ghost use Rattle.std.specs.Prelude.{◌≡◌, length};
 
-use libc::{STDIN_FILENO, STDOUT_FILENO};
+use host::read_full;
 use shelf::play_all;
+use std::io;
 
 // Room for all shelves, in bytes. Where they fill it the last may be cut short, and that is said.
 const ROOM: usize = 1048576;
@@ -19,11 +20,12 @@ fn room() -> [u8; ROOM]
     [0; ROOM]
 }
 
-fn main() {
+fn main(rt: HostRuntime) -> io::Result<()> {
     let mut input = room();
-    let n = io::read_full(STDIN_FILENO, &mut input);
-    play_all(&input[..n]);
+    let n = read_full(&mut rt.stdin(), &mut input)?;
+    play_all(&rt, &input[..n])?;
     if n == ROOM {
-        io::write_all(STDOUT_FILENO, b"the shelves fill their room\n");
+        rt.write_all(b"the shelves fill their room\n")?;
     }
+    Ok(())
 }

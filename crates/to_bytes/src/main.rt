@@ -2,21 +2,20 @@
 
 // The bytes of the schedule whose text is on standard input, on standard output. A text that is refused is told on
 // standard error, and nothing is written on standard output.
-use libc::{STDERR_FILENO, STDIN_FILENO, STDOUT_FILENO};
+use host::read_full;
+use std::io;
 use text::Answer;
 
 // Room for one byte more than the longest text has, so that a longer one is seen to be.
 const TEXT: usize = 262145;
 
-fn main() {
+fn main(rt: HostRuntime) -> io::Result<()> {
     let mut input = [0u8; TEXT];
-    let n = io::read_full(STDIN_FILENO, &mut input);
+    let n = read_full(&mut rt.stdin(), &mut input)?;
     let mut out = [0u8; text::ROOM];
     let answer = text::bytes_of(&input[..n], &mut out);
     match answer {
-        Answer::Made(r) => {
-            io::write_all(STDOUT_FILENO, &out[..r]);
-        }
-        Answer::Bad(line, w) => refusals::say(STDERR_FILENO, line, w),
+        Answer::Made(r) => rt.write_all(&out[..r]),
+        Answer::Bad(line, w) => refusals::say(&rt.stderr(), line, w),
     }
 }

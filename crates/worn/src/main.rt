@@ -6,7 +6,7 @@ ghost use Rattle.std.specs.Prelude.{◌≤◌};
 use byvalue::{no_head, no_table};
 use engine::opening::open;
 use engine::step::step;
-use libc::STDOUT_FILENO;
+use std::io;
 use words::{Answer, word};
 
 const PUT: u8 = 0;
@@ -64,18 +64,18 @@ fn at_most_8(len: u8) -> usize
 }
 
 // The first `len` letters.
-fn say(letters: [u8; 8], len: u8) {
+fn say(rt: &impl Print, letters: [u8; 8], len: u8) -> io::Result<()> {
     let n = at_most_8(len);
-    io::write_all(STDOUT_FILENO, &letters[..n]);
+    rt.write_all(&letters[..n])
 }
 
-fn main() {
+fn main(rt: HostRuntime) -> io::Result<()> {
     let worn = wear();
-    io::print_decimal(STDOUT_FILENO, worn.placed as u64);
-    io::write_all(STDOUT_FILENO, b" labels placed, then ");
+    let placed = worn.placed;
+    print!(rt; "{placed} labels placed, then ")?;
     let last = worn.last;
     let letters = word(last);
     let bytes = letters.bytes;
-    say(bytes, letters.len);
-    io::write_all(STDOUT_FILENO, b"\n");
+    say(&rt, bytes, letters.len)?;
+    rt.write_all(b"\n")
 }
