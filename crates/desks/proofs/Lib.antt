@@ -2,4 +2,3 @@ pub mod Cells
 pub mod Stages
 pub mod Won
 pub mod Moves
-pub mod Looked

@@ -3,7 +3,7 @@
 use mathlib.Core.Path.{◌≡◌, refl, sym, ap, subst, ◌∙◌}
 use mathlib.Core.Bool.{Bool, not}
 use mathlib.Core.List.{List}
-use Prim.Native.Nat.{ℕ, ◌+◌, ◌*◌, ◌%◌, ◌≤◌, ◌<◌}
+use Prim.Native.Nat.{ℕ, ◌%◌, ◌≤◌, ◌<◌}
 use native.Mathlib.Nat.{mod-lt}
 use native.Mathlib.Omega.{arith}
 use lib.Dec.{leb, leb→le, nleb→lt}
@@ -28,7 +28,7 @@ use Rattle.line.specs.declared.Desk.{Desk as LentDesk}
 use Rattle.line.specs.declared.Head.{Head}
 use Rattle.line.specs.declared.Moved.{Moved}
 use Rattle.line.specs.Line.{Line, Spot, nowhere, spot_of, numbers_of, desk_of, desk_at, with_numbers, unused, size_of, record_of, entry_of, label_at}
-use Rattle.line.specs.Line.{moved, look_of, wins, claim_of, fetch_of, finish_of, moved_by, with_moved, desk_does, desk_step}
+use Rattle.line.specs.Line.{look_of, wins, claim_of, fetch_of, finish_of, moved_by, with_moved, desk_does, desk_step}
 use Rattle.line.specs.Rules.{DeskRule}
 use Rattle.line.proofs.Current.{current→window}
 use Rattle.line.proofs.Cells.{cell}
@@ -200,6 +200,12 @@ module _ (h : Head) (t : List Block) (es : List ℕ) (r : Ready h t es) where
         module _ (e : may s) (i : ℕ) (q : i ≡ read s) where
           pub block_in : i < h.nb
           block_in = rw q (read_in h.nb x.turn s (desk_of x) (blocks h t es r).0 e)
+
+          pub few_in : i < 64
+          few_in = let k = block_in in let v = sizes h t es r in omega arith
+
+          pub look_in : (at : ℕ) → s ≡ look at → at < h.nb
+          look_in at f = let j : i ≡ at = rw f at q in omega (arith, block_in)
 
           pub fetch_in : s ≡ fetch → (i ≡ x.turn % h.nb) × Stands h.ne i x.place es
           fetch_in f = let k = at_stage_lem s e in let j = rw f at q in (j, rw j (fetch_stands (rw f at k)))

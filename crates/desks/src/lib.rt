@@ -180,8 +180,8 @@ fn take(
     c: Block,
     x: Desk,
 ) -> Moved
-    requires le_nb { (1 ≤ nb) × (nb ≤ 64) × (c.claimed < 65535) × (c.finished < 65535) }
-    requires by_index { ((at : ℕ) → s ≡ look_step at → at < nb) × (s ≡ fetch_step → (i ≡ x.turn % nb) × Stands ne i x.place entries.now) }
+    requires in_range { (1 ≤ nb) × (nb ≤ 64) × (c.claimed < 65535) × (c.finished < 65535) }
+    requires by_step { ((at : ℕ) → s ≡ look_step at → at < nb) × (s ≡ fetch_step → (i ≡ x.turn % nb) × Stands ne i x.place entries.now) }
     ensures { result ≡ moved_by (sized nb ne 0) s p k entries.now c x (claimed_at (spot_of x)) }
 {
     match s {

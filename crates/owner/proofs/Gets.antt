@@ -9,7 +9,7 @@ use lib.Dec.{T, ltb→lt}
 use lib.ListN.{get_or}
 use Rattle.words.specs.declared.Refusal.TheVariants.{Empty}
 use Rattle.words.specs.declared.Answer.TheVariants.{Got, Refused}
-use Rattle.book.specs.Choice.{if◌then◌else◌, ◌<ᵇ◌, ◌≡ᵇ◌}
+use Rattle.book.specs.Choice.{◌<ᵇ◌, ◌≡ᵇ◌}
 use Rattle.book.specs.Sizes.{Size, sized}
 use Rattle.book.proofs.Choice.{and_second, lt→true, ge→false}
 use Rattle.line.specs.declared.Block.{Block}

@@ -1,4 +1,3 @@
-pub mod Comparing
 pub mod Puts
 pub mod Orders
 pub mod Gets

@@ -1,12 +1,12 @@
 -- An order on a lent line: a run of puts that stops at the first refusal.
-use mathlib.Core.Path.{◌≡◌, refl, sym, ◌∙◌}
+use mathlib.Core.Path.{◌≡◌, refl, ◌∙◌}
 use mathlib.Core.Bool.{true, false}
 use mathlib.Core.List.{List}
 use Prim.Native.Nat.{ℕ, suc, ◌+◌, ◌-◌, ◌%◌, ◌≤◌, ◌<◌}
 use native.Mathlib.Numerals.{add-one}
 use native.Mathlib.Omega.{arith}
 use lib.Dec.{T, leb, leb→le}
-use lib.ListN.{length, set, drop}
+use lib.ListN.{set, drop}
 use Rattle.words.specs.declared.Refusal.{Refusal}
 use Rattle.words.specs.declared.Refusal.TheVariants.{Range}
 use Rattle.words.specs.declared.Answer.TheVariants.{Whole, Refused}
@@ -17,7 +17,6 @@ use Rattle.line.specs.declared.Block.{Block}
 use Rattle.line.specs.declared.Head.{Head}
 use Rattle.line.specs.declared.Room.{Room}
 use Rattle.line.specs.Line.{Outcome, size_of, put_at, put_many, order_step}
-use Rattle.line.proofs.Cells.{entries_of}
 use Rattle.byvalue.specs.Lent.{line_of}
 use Rattle.byvalue.specs.GivenBack.{given, back_of}
 use Rattle.byvalue.specs.Ready.{Ready}
@@ -73,9 +72,6 @@ module _ (h : Head) (t₀ : List Block) (es₀ : List ℕ) (a b : ℕ) where
   module _ {p : ℕ} {t : List Block} {es : List ℕ} {i label : ℕ} (s : Placed p t es i label) where
     few : h.nb ≤ 64
     few = (blocks (put_at h p) t es s.ready).1
-
-    pub as_long : Ready h t₀ es₀ → length es ≡ length es₀
-    as_long r = entries_of z (line_of (put_at h p) t h.nb es) s.ready ∙ sym (entries_of z (line_of h t₀ h.nb es₀) r)
 
     pub whole : b < label → given (Whole (label - a)) (put_at h p) t es ≡ back_of t₀ h.nb out
     unfolding put_many

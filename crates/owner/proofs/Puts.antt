@@ -4,14 +4,13 @@ use mathlib.Core.Bool.{Bool}
 use mathlib.Core.List.{List}
 use Prim.Native.Nat.{ℕ, suc, ◌+◌, ◌-◌, ◌*◌, ◌/◌, ◌%◌, ◌≤◌, ◌<◌}
 use native.Mathlib.Nat.{mod-eq-sub-mod}
-use native.Mathlib.Omega.{arith}
 use lib.Dec.{leb, ltb→lt, nleb→lt}
 use lib.ListN.{get_or, set, drop}
 use lib.Seq.{drop-set-lt}
 use Rattle.words.specs.declared.Refusal.{Refusal}
 use Rattle.words.specs.declared.Refusal.TheVariants.{Notlabel, Worn}
 use Rattle.words.specs.declared.Answer.TheVariants.{Put, Refused}
-use Rattle.book.specs.Choice.{if◌then◌else◌, ◌<ᵇ◌}
+use Rattle.book.specs.Choice.{◌<ᵇ◌}
 use Rattle.book.specs.Sizes.{Size, sized, is_label}
 use Rattle.book.specs.declared.Verdict.{Verdict}
 use Rattle.book.specs.declared.Verdict.TheVariants.{Takes as takes, Refuses as refuses}

@@ -31,12 +31,14 @@ fn narrow(x: u32) -> u16
 
 const HIGHEST_LABEL: u32 = 999999;
 
+#[tactic(auto, unfolding(book::specs::Sizes::is_label))]
 fn is_label(a: u32) -> bool
     ensures { result ≡ is_label a }
 {
     a <= HIGHEST_LABEL
 }
 
+#[tactic(auto, unfolding(book::specs::Sizes::is_order))]
 fn is_order(a: u32, b: u32) -> bool
     ensures { result ≡ is_order a b }
 {
@@ -73,6 +75,7 @@ fn is_busy(c: Block) -> bool
 }
 
 // May turn `next` be started in a block whose record is `old`.
+#[tactic(auto, unfolding(book::specs::Verdicts::startable))]
 fn may_start(nb: u32, k: u32, next: u32, old: Block) -> Verdict
     requires { 1 ≤ nb }
     ensures { result ≡ startable (sized nb 0 0) k (is_busy old) next }
@@ -94,6 +97,7 @@ fn may_start(nb: u32, k: u32, next: u32, old: Block) -> Verdict
 
 // May label a be put: the tests in the paper's order. `current` is the record of turn
 // P's block, `old` that of the block in which the next turn stands.
+#[tactic(auto, unfolding(book::specs::Verdicts::startable, book::specs::Verdicts::placeable))]
 fn may_put(nb: u32, ne: u32, p: u32, k: u32, current: Block, old: Block, a: u32) -> Verdict
     requires { (1 ≤ nb) × (p < 65536 * 64) }
     ensures { result ≡ placeable (sized nb ne 0) p current.written k (is_busy old) a }
@@ -108,6 +112,7 @@ fn may_put(nb: u32, ne: u32, p: u32, k: u32, current: Block, old: Block, a: u32)
 }
 
 // Where a put's label goes. Turn P stands in block `here`, the next turn in block `next`.
+#[tactic(auto, unfolding(line::specs::Line::room_of))]
 fn room_for(nb: u32, ne: u32, p: u32, here: usize, next: usize, current: Block) -> Room
     requires le_nb { (1 ≤ nb) × (nb ≤ 64) × (ne ≤ 64) × (p < 65536 * 64) }
     requires here_value { (here ≡ p % nb) × (next ≡ (p + 1) % nb) }
@@ -150,6 +155,7 @@ fn placed(first: u32, label: u32) -> u32
 }
 
 // Does a get at `place` of turn K move on, `current` being the record of that turn's block.
+#[tactic(auto, unfolding(line::specs::Line::moves_on))]
 fn moves_on(ne: u16, p: u32, k: u32, place: u16, current: Block) -> bool
     requires { place ≤ ne }
     ensures { result ≡ moves_on (sized 0 ne 0) p current (record { turn = k; place = place }) }
