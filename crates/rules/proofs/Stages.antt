@@ -15,7 +15,7 @@ use Rattle.book.proofs.Choice.{by_test, and_false}
 use Rattle.line.specs.declared.Block.{Block}
 use Rattle.line.specs.declared.Desk.{Desk as LentDesk}
 use Rattle.line.specs.Line.{Spot, desk_of, spot_of}
-use Rattle.line.specs.Tests.{desk_obeys, clashes, holds_at, is_idle, is_recent, obeys3}
+use Rattle.line.specs.Tests.{desk_obeys, clashes, holds_at, is_idle, is_recent}
 use Rattle.rules.specs.Holders.{held_turn, is_holding, is_turn, no_turn}
 use Rattle.line.specs.Rules.{held_in}
 

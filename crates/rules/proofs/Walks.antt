@@ -10,7 +10,7 @@ use lib.ListN.{length, length-map, get_or, set, take, drop, drop_of_length-le}
 use lib.Seq.{take_all, drop-cons, drop-nil}
 use lib.Dec.{ltb, eqb, ltb→lt}
 use Rattle.book.specs.Total.{total, any, all}
-use Rattle.book.specs.Steps.{Hold, Desk, idle, looked, holding, claimed_at, with_fetched}
+use Rattle.book.specs.Steps.{Desk, idle, looked, holding}
 use Rattle.book.proofs.Choice.{cases, T→true, not→false, and_second, and_false}
 use Rattle.book.proofs.Total.{total_le}
 use Rattle.line.specs.declared.Desk.{Desk as LentDesk}
