@@ -1,6 +1,6 @@
 #![tactic(auto)]
 
-// The portal's calls for C and Rust. `rt staticlib lbq` writes them to target/staticlib/liblbq.a.
+// The portal's calls for C and Rust. `make lib` writes them to target/staticlib/liblbq.a.
 //
 // What crosses are numbers and records of numbers. A caller lends its own memory, head, table and entries, laid out as
 // C lays out
