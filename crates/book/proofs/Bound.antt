@@ -3,6 +3,7 @@
 -- A win leaves at most T - 1 looks dead, a move of K at most T, and no other step makes a look dead. So for each step
 --   lost + dead + T × K(before) ≤ dead(before) + (T - 1) × won + T × K,
 -- and by adding up for each run, with K ≤ P and exactly T desks throughout.
+use Rattle.std.specs.Prelude.{if◌then◌else◌}
 use mathlib.Core.Path.{◌≡◌, refl, ap, ◌∙◌}
 use mathlib.Core.Bool.{not}
 use mathlib.Core.List.{List, [], ◌∷◌}
@@ -12,7 +13,7 @@ use native.Mathlib.Omega.{arith}
 use lib.Dec.{T, ltb→lt, nltb→le}
 use lib.ListN.{length, set, length-replicate, length-set, length-append}
 use Rattle.words.specs.declared.Answer.TheVariants.{Refused}
-use Rattle.book.specs.Choice.{if◌then◌else◌, ◌<ᵇ◌, ◌≤ᵇ◌}
+use Rattle.book.specs.Choice.{◌<ᵇ◌, ◌≤ᵇ◌}
 use Rattle.book.specs.Total.{total}
 use Rattle.book.specs.Sizes.{Size, is_label, is_order, round_of}
 use Rattle.book.specs.Steps.{Step, DeskStep, Deed, decode, Hold, Desk, idle, looked, holding, claimed_at, with_fetched}

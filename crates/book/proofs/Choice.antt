@@ -1,24 +1,23 @@
 -- Laws of a choice by a test: to prove something of it, of two of them side by side, and to put a known test in.
 use mathlib.Core.Path.{◌≡◌, refl, sym, subst}
 use mathlib.Core.Logic.{◌≢◌}
-use mathlib.Core.Bool.{Bool, true, false, not, ◌&&◌}
+use mathlib.Core.Bool.{Bool, true, false, cond, not, ◌&&◌}
 use Prim.Native.Nat.{ℕ, ◌≤◌, ◌<◌}
 use native.Mathlib.Omega.{arith}
 use lib.Dec.{T, T_not, ltb, leb, eqb, ltb→lt, lt→ltb, nltb→le, leb→le, le→leb, eqb→eq, eqb_refl}
 use Rattle.words.specs.declared.Refusal.{Refusal}
-use Rattle.book.specs.Choice.{if◌then◌else◌}
 use Rattle.book.specs.Verdicts.{Verdict, takes, refuses, judge}
 
 -- ---- by a test
 
 -- what holds of both branches, each under its test, holds of the choice
-pub by_test {ℓ} : {A : Type ℓ} (P : A → Type 0) (b : Bool) {x y : A} → (T b → P x) → (T (not b) → P y) → P (if b then x else y)
+pub by_test {ℓ} : {A : Type ℓ} (P : A → Type 0) (b : Bool) {x y : A} → (T b → P x) → (T (not b) → P y) → P (cond b x y)
 by_test P true f g = f tt
 by_test P false f g = g tt
 
 -- the same of two choices whose tests are equal
 pub by_test₂ {ℓ} : {A B : Type ℓ} (P : A → B → Type 0) (b c : Bool) {x y : A} {u v : B} → b ≡ c → (T b → P x u) → (T (not b) → P y v)
-    → P (if b then x else y) (if c then u else v)
+    → P (cond b x y) (cond c u v)
 by_test₂ P true true e f g = f tt
 by_test₂ P false false e f g = g tt
 by_test₂ P true false e f g = absurd (subst T e tt)
@@ -29,15 +28,15 @@ pub cases {ℓ} : {C : Type ℓ} (b : Bool) → (T b → C) → (T (not b) → C
 cases true f g = f tt
 cases false f g = g tt
 
-pub choose_true {ℓ} : {A : Type ℓ} (b : Bool) (x y : A) → T b → (if b then x else y) ≡ x
+pub choose_true {ℓ} : {A : Type ℓ} (b : Bool) (x y : A) → T b → cond b x y ≡ x
 choose_true true x y t = refl
 choose_true false x y t = absurd t
 
-pub choose_false {ℓ} : {A : Type ℓ} (b : Bool) (x y : A) → T (not b) → (if b then x else y) ≡ y
+pub choose_false {ℓ} : {A : Type ℓ} (b : Bool) (x y : A) → T (not b) → cond b x y ≡ y
 choose_false true x y t = absurd t
 choose_false false x y t = refl
 
-pub choose_same {ℓ} : {A : Type ℓ} (b : Bool) (x : A) → (if b then x else x) ≡ x
+pub choose_same {ℓ} : {A : Type ℓ} (b : Bool) (x : A) → cond b x x ≡ x
 choose_same true x = refl
 choose_same false x = refl
 

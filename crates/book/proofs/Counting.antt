@@ -3,6 +3,7 @@
 -- placed. So it left at most once; and summed over the rows, left + held = gone, which is placed - waiting.
 -- Both are one law, `tallied`, of two tallies. `Kept` says what a step keeps, the labels of proofs/Handed.antt among it:
 -- one lemma for each kind of change, one for each step, then every run.
+use Rattle.std.specs.Prelude.{if◌then◌else◌}
 use mathlib.Core.Path.{◌≡◌, refl, sym, ap, ap₂, ◌∙◌}
 use mathlib.Core.Bool.{Bool, true, false, not}
 use mathlib.Core.List.{List, [], ◌∷◌, ◌++◌, map, map-append}
@@ -11,7 +12,7 @@ use native.Mathlib.Omega.{arith}
 use lib.Dec.{T, eqb, eqb→eq}
 use lib.ListN.{length, get_or, set, length-replicate, length-set, length-append, get_or-append}
 use lib.Seq.{get_or-set_same, get_or-set_other}
-use Rattle.book.specs.Choice.{if◌then◌else◌, ◌<ᵇ◌}
+use Rattle.book.specs.Choice.{◌<ᵇ◌}
 use Rattle.book.specs.Total.{total}
 use Rattle.book.specs.Sizes.{Size, is_order}
 use Rattle.book.specs.Steps.{Step, DeskStep, Deed, decode, Hold, Desk, idle, looked, holding, claimed_at, with_fetched, is_fetched}

@@ -1,5 +1,6 @@
 -- The owner gets until EMPTY. A get hands over a row that waits, or none waits at all: it moves on from a turn only where no row
 -- of it waits, and comes to turn P at last. So as many gets as rows wait, or more, and one more, leave none, with K at P.
+use Rattle.std.specs.Prelude.{if◌then◌else◌}
 use mathlib.Core.Path.{◌≡◌, refl, ap, ◌∙◌}
 use mathlib.Core.Logic.{◌⊎◌, inl, inr, ⊎_elim}
 use mathlib.Core.Bool.{Bool, true, false, not}
@@ -12,7 +13,6 @@ use lib.ListN.{length, replicate}
 use Rattle.words.specs.declared.Answer.{Answer}
 use Rattle.words.specs.declared.Answer.TheVariants.{Refused}
 use Rattle.words.specs.declared.Refusal.TheVariants.{Empty}
-use Rattle.book.specs.Choice.{if◌then◌else◌}
 use Rattle.book.specs.Total.{total}
 use Rattle.book.specs.Sizes.{Size}
 use Rattle.book.specs.Steps.{decode}

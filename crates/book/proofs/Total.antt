@@ -1,4 +1,5 @@
 -- Laws of sums and searches over a list.
+use Rattle.std.specs.Prelude.{if◌then◌else◌}
 use mathlib.Core.Path.{◌≡◌, refl, sym, ap, ◌∙◌}
 use mathlib.Core.Bool.{Bool}
 use mathlib.Core.List.{List, [], ◌∷◌, ◌++◌}
@@ -7,7 +8,6 @@ use native.Mathlib.Nat.{not-suc-le-zero, le_of_suc-le-suc}
 use native.Mathlib.Omega.{arith}
 use lib.Dec.{T, ltb}
 use lib.ListN.{length, get_or, set, replicate}
-use Rattle.book.specs.Choice.{if◌then◌else◌}
 use Rattle.book.specs.Total.{total, any}
 use Rattle.book.proofs.Choice.{cases, T→true, not→false, lt→true}
 

@@ -1,11 +1,11 @@
 -- The book: the meaning of the steps. A list of labels in the order placed, row n belonging to turn n div NE, a mark on
 -- each row, the get turn K, and the desks with row numbers. Rows are never reused.
-use Rattle.std.specs.Prelude.{Bool, true, false, not, ◌&&◌, List, [], ◌∷◌, ◌++◌, ℕ, zero, suc, ◌+◌, ◌-◌, ◌*◌, ◌/◌, ◌%◌, length, get_or, set, take, drop, replicate}
+use Rattle.std.specs.Prelude.{Bool, true, false, not, ◌&&◌, List, [], ◌∷◌, ◌++◌, ℕ, zero, suc, ◌+◌, ◌-◌, ◌*◌, ◌/◌, ◌%◌, length, get_or, set, take, drop, replicate, if◌then◌else◌}
 use Rattle.words.specs.declared.Answer.{Answer}
 use Rattle.words.specs.declared.Answer.TheVariants.{Put, Got, Took, Whole, Seen, Claimed, Done, Refused}
 use Rattle.words.specs.declared.Refusal.{Refusal}
 use Rattle.words.specs.declared.Refusal.TheVariants.{Unfit, Badstep, Lost, Range, Empty}
-use Rattle.book.specs.Choice.{if◌then◌else◌, ◌<ᵇ◌, ◌≡ᵇ◌}
+use Rattle.book.specs.Choice.{◌<ᵇ◌, ◌≡ᵇ◌}
 use Rattle.book.specs.Total.{any}
 use Rattle.book.specs.Sizes.{Size, fits, is_order, current_turn}
 use Rattle.book.specs.Steps.{Step, DeskStep, look, claim, fetch, finish, Deed, put, get, order, desk, unlisted, decode}

@@ -1,6 +1,6 @@
 -- The cases, as data: a size, the steps of a run from opening, their answers, and the bound on claims lost where the paper says it.
 -- Where the size is outside its limits the answer is UNFIT alone, so that the book and the limits stand in one statement, `CasesHold`.
-use Rattle.std.specs.Prelude.{◌≡◌, List, [], ◌∷◌, ◌++◌, map, ℕ, zero, suc, ◌+◌, T}
+use Rattle.std.specs.Prelude.{◌≡◌, List, [], ◌∷◌, ◌++◌, map, ℕ, zero, suc, T}
 use Rattle.words.specs.declared.Answer.{Answer}
 use Rattle.words.specs.declared.Answer.TheVariants.{Put, Got, Took, Whole, Seen, Claimed, Done, Refused}
 use Rattle.words.specs.declared.Refusal.{Refusal}

@@ -1,10 +1,9 @@
 -- Nothing is ever stuck: from every book that a run reaches a stated run of a stated length at most hands over every label, and the
 -- next label put is placed. proofs/Clearing.antt has a proof of each statement, under the same name in small letters.
-use Rattle.std.specs.Prelude.{◌≡◌, ◌⊎◌, false, List, [], ◌∷◌, ◌++◌, ℕ, suc, ◌+◌, ◌*◌, ◌≤◌, ◌<◌, T, length, replicate}
+use Rattle.std.specs.Prelude.{◌≡◌, ◌⊎◌, false, List, [], ◌∷◌, ◌++◌, ℕ, suc, ◌+◌, ◌*◌, ◌≤◌, ◌<◌, T, length, replicate, if◌then◌else◌}
 use Rattle.words.specs.declared.Answer.{Answer}
 use Rattle.words.specs.declared.Answer.TheVariants.{Put, Refused}
 use Rattle.words.specs.declared.Refusal.TheVariants.{Worn, Busy, Empty}
-use Rattle.book.specs.Choice.{if◌then◌else◌}
 use Rattle.book.specs.Sizes.{Size, fits, is_label, round_of}
 use Rattle.book.specs.Steps.{Step, Desk, idle, looked, holding, is_fetched}
 use Rattle.book.specs.Book.{Book, row_at, desk_at, put_turn, held_in, step, opened, answers, after, leaves}

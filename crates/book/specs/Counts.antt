@@ -1,9 +1,9 @@
 -- What is counted: from the answers of a run, and in the book after it.
-use Rattle.std.specs.Prelude.{List, [], ◌∷◌, ◌++◌, ℕ, ◌+◌, ◌-◌, ◌*◌, ◌/◌}
+use Rattle.std.specs.Prelude.{List, [], ◌∷◌, ◌++◌, ℕ, ◌+◌, ◌-◌, ◌*◌, ◌/◌, if◌then◌else◌}
 use Rattle.words.specs.declared.Answer.{Answer}
 use Rattle.words.specs.declared.Answer.TheVariants.{Put, Got, Took, Whole, Seen, Claimed, Done, Refused}
 use Rattle.words.specs.Words.{said}
-use Rattle.book.specs.Choice.{if◌then◌else◌, ◌≡ᵇ◌}
+use Rattle.book.specs.Choice.{◌≡ᵇ◌}
 use Rattle.book.specs.Total.{total}
 use Rattle.book.specs.Sizes.{Size}
 use Rattle.book.specs.Steps.{Desk, idle, looked, holding, is_fetched}

@@ -1,7 +1,6 @@
 -- What holds of every run of the book from opening, for every size and every list of steps: any codes, any numbers.
 -- proofs/ has a proof of each, under the same name in small letters.
-use Rattle.std.specs.Prelude.{◌≡◌, ◌≢◌, not, List, map, ℕ, ◌+◌, ◌-◌, ◌≤◌, ◌<◌, T, length}
-use Rattle.book.specs.Choice.{if◌then◌else◌}
+use Rattle.std.specs.Prelude.{◌≡◌, ◌≢◌, not, List, map, ℕ, ◌+◌, ◌-◌, ◌≤◌, ◌<◌, T, length, if◌then◌else◌}
 use Rattle.book.specs.Sizes.{Size, block_of, is_used, current_turn}
 use Rattle.book.specs.Steps.{Step, get, decode, Hold, holding}
 use Rattle.book.specs.Book.{row_at, desk_at, step, opened, answers, after, leaves}

@@ -1,6 +1,6 @@
 -- The steps: a code and two numbers, and what they ask for; and what a desk is.
-use Rattle.std.specs.Prelude.{Bool, true, false, ℕ, ◌-◌}
-use Rattle.book.specs.Choice.{if◌then◌else◌, ◌≡ᵇ◌}
+use Rattle.std.specs.Prelude.{Bool, true, false, ℕ, ◌-◌, if◌then◌else◌}
+use Rattle.book.specs.Choice.{◌≡ᵇ◌}
 use Rattle.book.specs.Sizes.{within}
 pub use Rattle.book.specs.declared.DeskStep.{DeskStep}
 pub use Rattle.book.specs.declared.DeskStep.TheVariants.{Look as look, Claim as claim, Fetch as fetch, Finish as finish}

@@ -1,8 +1,8 @@
 -- When a step is refused: the tests in the order that the paper asks for, over what they read. Line and book share them.
-use Rattle.std.specs.Prelude.{Bool, false, not, ◌&&◌, List, [], ◌∷◌, ℕ, ◌+◌, ◌-◌, get_or}
+use Rattle.std.specs.Prelude.{Bool, false, not, ◌&&◌, List, [], ◌∷◌, ℕ, ◌+◌, ◌-◌, get_or, if◌then◌else◌}
 use Rattle.words.specs.declared.Refusal.{Refusal}
 use Rattle.words.specs.declared.Refusal.TheVariants.{Nodesk, Noblock, Stage, Owned, Nothing, Notlabel, Worn, Full, Busy}
-use Rattle.book.specs.Choice.{if◌then◌else◌, ◌<ᵇ◌, ◌≤ᵇ◌}
+use Rattle.book.specs.Choice.{◌<ᵇ◌, ◌≤ᵇ◌}
 use Rattle.book.specs.Sizes.{Size, is_label, round_of, is_used, is_owned}
 use Rattle.book.specs.Steps.{DeskStep, look, claim, fetch, finish, Desk, idle, looked, holding, is_fetched}
 pub use Rattle.book.specs.declared.Verdict.{Verdict}

@@ -1,7 +1,7 @@
 -- What a sound line, lent with its NB records, says of the numbers that a step computes with.
 use mathlib.Core.Path.{◌≡◌, sym}
 use mathlib.Core.List.{List}
-use Prim.Native.Nat.{ℕ, ◌+◌, ◌*◌, ◌%◌, ◌≤◌, ◌<◌}
+use Prim.Native.Nat.{ℕ, ◌*◌, ◌%◌, ◌≤◌, ◌<◌}
 use native.Mathlib.Nat.{mod-lt}
 use native.Mathlib.Omega.{arith}
 use lib.ListN.{get_or}

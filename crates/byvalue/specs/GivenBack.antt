@@ -1,8 +1,8 @@
 -- What a call gives back: the answer, the head, the table of 64 records and the entries. And what it is to give
 -- back of an outcome on the line that was lent: the lent records stand in front of the others.
-use Rattle.std.specs.Prelude.{List, ◌++◌, ℕ, drop}
+use Rattle.std.specs.Prelude.{List, ◌++◌, ℕ, drop, if◌then◌else◌}
 use Rattle.words.specs.declared.Answer.{Answer}
-use Rattle.book.specs.Choice.{if◌then◌else◌, ◌≤ᵇ◌}
+use Rattle.book.specs.Choice.{◌≤ᵇ◌}
 use Rattle.line.specs.declared.Block.{Block}
 use Rattle.line.specs.declared.Head.{Head}
 use Rattle.line.specs.declared.Opening.{Opening}

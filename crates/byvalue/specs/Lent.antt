@@ -1,6 +1,6 @@
 -- The line that a call is lent: the head, the first records of a table of 64, and the entries.
-use Rattle.std.specs.Prelude.{List, ℕ, take, replicate}
-use Rattle.book.specs.Choice.{if◌then◌else◌, ◌≤ᵇ◌}
+use Rattle.std.specs.Prelude.{List, ℕ, take, replicate, if◌then◌else◌}
+use Rattle.book.specs.Choice.{◌≤ᵇ◌}
 use Rattle.line.specs.declared.Block.{Block}
 use Rattle.line.specs.declared.Head.{Head}
 use Rattle.line.specs.Line.{Line, unused}

@@ -1,5 +1,6 @@
 -- A mask of bits, the first of them lowest: its ones are their number, and its trailing zeros the lowest of them.
 -- It is built from the top block down.
+use Rattle.std.specs.Prelude.{if◌then◌else◌}
 use mathlib.Core.Path.{◌≡◌, refl, ap, ap₂, ◌∙◌}
 use mathlib.Core.Bool.{Bool, true, false}
 use mathlib.Core.List.{List, [], ◌∷◌}
@@ -9,7 +10,6 @@ use native.Mathlib.Omega.{arith}
 use lib.Count.{ones, ones_step, count_trailing_zeros, under, trailing_of_zero}
 use lib.ListN.{length}
 use lib.Pow.{pow_mono}
-use Rattle.book.specs.Choice.{if◌then◌else◌}
 use Rattle.book.specs.Total.{total}
 use Rattle.line.specs.declared.Surveyed.TheVariants.{Survey}
 use Rattle.line.specs.declared.Findings.{Findings}

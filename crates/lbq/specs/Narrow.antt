@@ -1,7 +1,7 @@
 -- The numbers that cross are 32 bits wide. The portal takes a code of 8 bits and sizes of 16: a larger number becomes
 -- the largest of that width.
-use Rattle.std.specs.Prelude.{ℕ}
-use Rattle.book.specs.Choice.{if◌then◌else◌, ◌≤ᵇ◌}
+use Rattle.std.specs.Prelude.{ℕ, if◌then◌else◌}
+use Rattle.book.specs.Choice.{◌≤ᵇ◌}
 
 unfoldable pub at_most : ℕ → ℕ → ℕ
 at_most high n = if n ≤ᵇ high then n else high

@@ -1,5 +1,6 @@
 -- Nothing is ever stuck on the line: by demand 2 its answers are the book's, and its desks settle by the same steps. The line has
 -- NB × NE entries, and no more labels wait in the book.
+use Rattle.std.specs.Prelude.{if◌then◌else◌}
 use mathlib.Core.Path.{◌≡◌, refl, sym, ap, ap₂, ◌∙◌}
 use mathlib.Core.Logic.{⊎_map}
 use mathlib.Core.Bool.{Bool}
@@ -10,7 +11,6 @@ use lib.Dec.{T}
 use lib.ListN.{get_or, take, replicate}
 use Rattle.words.specs.declared.Answer.{Answer}
 use Rattle.words.specs.declared.Answer.TheVariants.{Done}
-use Rattle.book.specs.Choice.{if◌then◌else◌}
 use Rattle.book.specs.Sizes.{Size, fits}
 use Rattle.book.specs.Steps.{Step, Desk, idle, looked, holding}
 use Rattle.book.specs.Counts.{unfetched, waiting}

@@ -1,5 +1,6 @@
 -- What a desk's step leaves of the line. The step writes one desk and one record back (`with_moved`); where it changed neither, the
 -- line is as it was. So each of the four steps is told by what it changes.
+use Rattle.std.specs.Prelude.{if◌then◌else◌}
 use mathlib.Core.Path.{◌≡◌, refl}
 use mathlib.Core.Bool.{Bool, not}
 use Prim.Native.Nat.{ℕ}
@@ -7,7 +8,7 @@ use lib.ListN.{get_or, set}
 use lib.Seq.{set-get_or}
 use Rattle.words.specs.declared.Answer.TheVariants.{Took, Seen, Claimed, Done, Refused}
 use Rattle.words.specs.declared.Refusal.TheVariants.{Lost}
-use Rattle.book.specs.Choice.{if◌then◌else◌, ◌≡ᵇ◌}
+use Rattle.book.specs.Choice.{◌≡ᵇ◌}
 use Rattle.book.specs.Sizes.{Size, block_of, current_turn}
 use Rattle.book.specs.declared.DeskStep.TheVariants.{Look as look, Claim as claim, Fetch as fetch, Finish as finish}
 use Rattle.book.specs.declared.Verdict.{Verdict}

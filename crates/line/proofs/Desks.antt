@@ -2,6 +2,7 @@
 -- So as many desks hold a row of a turn as hold a spot of it, and BUSY is the same on both sides, by rule 7. A desk that
 -- is written is written in both; with it records and rows may change, where written and the labels stand, and claimed
 -- does not fall.
+use Rattle.std.specs.Prelude.{if◌then◌else◌}
 use mathlib.Core.Path.{◌≡◌, refl, sym, ap, ◌∙◌, subst}
 use mathlib.Core.List.{List, [], ◌∷◌, map}
 use Prim.Native.Nat.{ℕ, zero, suc, ◌≤◌, ◌<◌}
@@ -9,7 +10,6 @@ use native.Mathlib.Omega.{arith}
 use lib.Dec.{ltb, ltb→lt, lt→ltb, nltb→le}
 use lib.ListN.{length, get_or, set, take, length-take, get_or-map, get_or-eq_default}
 use lib.Seq.{get_or-take, take-set-lt}
-use Rattle.book.specs.Choice.{if◌then◌else◌}
 use Rattle.book.specs.Total.{total}
 use Rattle.book.specs.Steps.{Desk, idle, looked, Hold, holding, hold_of}
 use Rattle.book.specs.Book.{Row, Book, row_at, row_of}

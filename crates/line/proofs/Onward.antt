@@ -1,11 +1,12 @@
 -- A get moves on, or reads where it is, or is at the end: the three ways of one test, `moves_on`. And how far a get moves.
+use Rattle.std.specs.Prelude.{if◌then◌else◌}
 use mathlib.Core.Path.{◌≡◌, refl, sym, subst}
 use mathlib.Core.Bool.{not, ◌&&◌}
 use mathlib.Core.List.{List}
 use Prim.Native.Nat.{ℕ, zero, suc, ◌+◌, ◌-◌, ◌≤◌}
 use native.Mathlib.Omega.{arith}
 use lib.Dec.{T}
-use Rattle.book.specs.Choice.{if◌then◌else◌, ◌<ᵇ◌, ◌≡ᵇ◌}
+use Rattle.book.specs.Choice.{◌<ᵇ◌, ◌≡ᵇ◌}
 use Rattle.book.specs.Sizes.{Size}
 use Rattle.book.proofs.Choice.{by_test, by_verdict, cases, T→true, not→false}
 use Rattle.line.specs.Line.{Line, Block, Spot, Outcome, size_of, record_of, moves_on, taken_over, reach, read_at, get_step, does}

@@ -16,7 +16,6 @@ use Rattle.book.proofs.Kept.{rows_of_book, labels_kept}
 use Rattle.book.proofs.Bound.{bounded}
 use Rattle.book.proofs.Cases.{worn_run}
 use Rattle.line.specs.Line.{Line, does, opened}
-use Rattle.line.specs.Check.{sound}
 use Rattle.line.specs.Calls.{step, answers, after}
 use Rattle.line.specs.Agrees.{Lawful}
 use Rattle.line.specs.Demands.{CheckSound, SoundOut, OrderSoundOut, AlwaysSound, RunAgrees, OpenedAgrees, Demand2, LineCounting, LineHanded, LineRowsKept, LineWornRun, Demand3}

@@ -1,6 +1,6 @@
 -- When a line and a book agree: the line is sound, and the book says the same of turns, places and labels.
-use Rattle.std.specs.Prelude.{◌≡◌, map, ℕ, ◌+◌, ◌*◌, ◌≤◌, ◌<◌, T, length, take}
-use Rattle.book.specs.Choice.{if◌then◌else◌, ◌<ᵇ◌, ◌≤ᵇ◌, ◌≡ᵇ◌}
+use Rattle.std.specs.Prelude.{◌≡◌, map, ℕ, ◌+◌, ◌*◌, ◌≤◌, ◌<◌, T, length, take, if◌then◌else◌}
+use Rattle.book.specs.Choice.{◌<ᵇ◌, ◌≤ᵇ◌, ◌≡ᵇ◌}
 use Rattle.book.specs.Sizes.{Size}
 use Rattle.book.specs.Steps.{Desk, idle, looked, holding}
 use Rattle.book.specs.Book.{Book, row_at, row_of}

@@ -1,8 +1,7 @@
 -- What a caller gets: opening, a step, an order. UNFIT and DAMAGED are tested before anything else is read.
-use Rattle.std.specs.Prelude.{List, [], ◌∷◌, ℕ}
+use Rattle.std.specs.Prelude.{List, [], ◌∷◌, ℕ, if◌then◌else◌}
 use Rattle.words.specs.declared.Answer.{Answer}
 use Rattle.words.specs.declared.Refusal.TheVariants.{Unfit, Damaged}
-use Rattle.book.specs.Choice.{if◌then◌else◌}
 use Rattle.book.specs.Sizes.{Size}
 use Rattle.book.specs.Steps.{Step, decode}
 use Rattle.book.specs.declared.Verdict.{Verdict}

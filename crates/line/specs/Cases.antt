@@ -1,6 +1,6 @@
 -- Runs and what they answer; the line that a run leads to; single steps and orders with the line that they leave and the
 -- answer; surveys; openings. On the line itself, with the check before each step. proofs/Cases.antt computes them.
-use Rattle.std.specs.Prelude.{◌≡◌, List, [], ◌∷◌, ◌++◌, map, ℕ, ◌+◌}
+use Rattle.std.specs.Prelude.{◌≡◌, List, [], ◌∷◌, ◌++◌, map, ℕ}
 use Rattle.words.specs.declared.Answer.{Answer}
 use Rattle.words.specs.declared.Answer.TheVariants.{Put, Got, Took, Whole, Seen, Claimed, Done, Refused}
 use Rattle.words.specs.declared.Refusal.TheVariants.{Unfit, Damaged, Badstep, Nodesk, Noblock, Stage, Owned, Nothing}
@@ -12,7 +12,7 @@ use Rattle.book.specs.Cases.{Exchange, ◌⇒◌}
 use Rattle.line.specs.Line.{Line, Outcome, says, numbers_of, opened}
 use Rattle.line.specs.Calls.{Opened, open·line, open·unfit, opens, step, orders, answers, after}
 use Rattle.line.specs.Check.{sound, unfit, broken}
-use Rattle.line.specs.Numbers.{opening_said, check_said, SurveySaid, survey_said}
+use Rattle.line.specs.Numbers.{opening_said, check_said, survey_said}
 use Rattle.line.specs.Survey.{Surveyed, surveyed, survey·unfit, survey·damaged, Findings, survey}
 use Rattle.line.specs.Samples.{claimed, fetched, size, spot, fresh, started, middle, read, won, ends, stolen, five, lengths, short}
 use Rattle.line.specs.Samples.{with_p, with_k, with_reading, with_desk, with_stage, with_round, with_written, with_claimed, with_finished, with_entry}

@@ -1,7 +1,6 @@
 -- The check: do the lengths fit, and which rule is the first broken, by the tests of specs/Tests.antt in the paper's order.
 -- Proved to be what specs/Rules.antt says.
-use Rattle.std.specs.Prelude.{Bool, List, [], ◌∷◌, ℕ, length, get_or}
-use Rattle.book.specs.Choice.{if◌then◌else◌}
+use Rattle.std.specs.Prelude.{Bool, List, [], ◌∷◌, ℕ, length, get_or, if◌then◌else◌}
 use Rattle.book.specs.Total.{total}
 use Rattle.book.specs.Sizes.{Size, is_used, current_turn}
 use Rattle.line.specs.Line.{Line, Block, desk_of, unused, size_in, here}

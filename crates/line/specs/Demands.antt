@@ -1,6 +1,6 @@
 -- The demands, as statements about the line alone and about line and book. proofs/ has a proof of each, under the
 -- same name in small letters.
-use Rattle.std.specs.Prelude.{◌≡◌, ◌≢◌, ◌↔◌, List, [], ◌∷◌, ◌++◌, map, ℕ, zero, suc, ◌+◌, ◌-◌, ◌/◌, ◌%◌, ◌^◌, ◌≤◌, ◌<◌, T, length}
+use Rattle.std.specs.Prelude.{◌≡◌, ◌≢◌, ◌↔◌, List, [], ◌∷◌, ◌++◌, map, ℕ, zero, suc, ◌+◌, ◌-◌, ◌/◌, ◌%◌, ◌^◌, ◌≤◌, ◌<◌, T, length, if◌then◌else◌}
 use Rattle.words.specs.declared.Answer.TheVariants.{Whole, Seen, Refused}
 use Rattle.words.specs.declared.Refusal.{Refusal}
 use Rattle.words.specs.declared.Refusal.TheVariants.{Unfit, Damaged, Lost, Range, Worn, Empty}
@@ -13,7 +13,6 @@ use Rattle.book.specs.declared.Verdict.TheVariants.{Refuses as refuses}
 use Rattle.book.specs.Book as B
 use Rattle.book.specs.Messages.{put}
 use Rattle.book.specs.WornCases.{put_and_get, placed_and_got}
-use Rattle.book.specs.Choice.{if◌then◌else◌}
 use Rattle.book.specs.Counts.{placed, got, took, won, lost, unfetched, times_held, waiting, handed, times, times_unfetched, times_waiting, bound}
 use Rattle.book.specs.Order.{placed_labels}
 use Rattle.line.specs.Line.{Line, Outcome, desk_at, get_at, with_desk, with_head, desk_step, may_put, opened, size_in, here}

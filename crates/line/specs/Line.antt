@@ -1,10 +1,10 @@
 -- The line: head, block table and entries, and what each step does to them. Turn t stands in block t mod NB.
-use Rattle.std.specs.Prelude.{Bool, not, ◌&&◌, List, ℕ, zero, suc, ◌+◌, ◌-◌, ◌*◌, get_or, set, replicate}
+use Rattle.std.specs.Prelude.{Bool, not, ◌&&◌, List, ℕ, zero, suc, ◌+◌, ◌-◌, ◌*◌, get_or, set, replicate, if◌then◌else◌}
 use Rattle.words.specs.declared.Answer.{Answer}
 use Rattle.words.specs.declared.Answer.TheVariants.{Put, Got, Took, Whole, Seen, Claimed, Done, Refused}
 use Rattle.words.specs.declared.Refusal.{Refusal}
 use Rattle.words.specs.declared.Refusal.TheVariants.{Badstep, Lost, Range, Empty}
-use Rattle.book.specs.Choice.{if◌then◌else◌, ◌<ᵇ◌, ◌≡ᵇ◌}
+use Rattle.book.specs.Choice.{◌<ᵇ◌, ◌≡ᵇ◌}
 use Rattle.book.specs.Sizes.{Size, is_order, block_of, round_of, current_turn, is_owned}
 use Rattle.book.specs.declared.DeskStep.{DeskStep}
 use Rattle.book.specs.declared.DeskStep.TheVariants.{Look as look, Claim as claim, Fetch as fetch, Finish as finish}

@@ -1,6 +1,6 @@
 -- The rules of a sound line, as the paper has them. They are asked of any numbers at all.
-use Rattle.std.specs.Prelude.{◌≡◌, ◌≢◌, List, [], ◌∷◌, ℕ, zero, suc, ◌+◌, ◌-◌, ◌*◌, ◌≤◌, ◌<◌, get_or}
-use Rattle.book.specs.Choice.{if◌then◌else◌, ◌≡ᵇ◌}
+use Rattle.std.specs.Prelude.{◌≡◌, ◌≢◌, List, [], ◌∷◌, ℕ, zero, suc, ◌+◌, ◌-◌, ◌*◌, ◌≤◌, ◌<◌, get_or, if◌then◌else◌}
+use Rattle.book.specs.Choice.{◌≡ᵇ◌}
 use Rattle.book.specs.Total.{total}
 use Rattle.book.specs.Sizes.{block_of, round_of, current_turn}
 use Rattle.book.specs.Steps.{Desk, idle, looked, holding}

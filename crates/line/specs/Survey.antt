@@ -1,8 +1,7 @@
 -- The survey, as it is computed. Proved to be what specs/Demands.antt says of it: `SurveyTells`, `SurveyGuarded`.
-use Rattle.std.specs.Prelude.{Bool, true, false, List, [], ◌∷◌, ℕ, zero, suc, ◌+◌, ◌*◌}
+use Rattle.std.specs.Prelude.{Bool, true, false, List, [], ◌∷◌, ℕ, zero, suc, ◌+◌, ◌*◌, if◌then◌else◌}
 use Rattle.words.specs.declared.Answer.{Answer}
 use Rattle.words.specs.declared.Answer.TheVariants.{Put, Got, Took, Whole, Seen, Claimed, Done, Refused}
-use Rattle.book.specs.Choice.{if◌then◌else◌}
 use Rattle.book.specs.Total.{total}
 use Rattle.book.specs.declared.DeskStep.TheVariants.{Look as look}
 use Rattle.book.specs.Steps.{idle}

@@ -1,7 +1,7 @@
 -- The test of each rule, over the numbers, the desk or the record that it reads: what the check of a line applies, and what the
 -- code that tests a rule promises. proofs/Check.antt shows that each is the rule of the same number in specs/Rules.antt.
-use Rattle.std.specs.Prelude.{Bool, true, false, not, ◌&&◌, ◌||◌, List, [], ◌∷◌, ℕ, ◌+◌, ◌-◌, ◌*◌, ◌/◌, drop}
-use Rattle.book.specs.Choice.{if◌then◌else◌, ◌<ᵇ◌, ◌≤ᵇ◌, ◌≡ᵇ◌}
+use Rattle.std.specs.Prelude.{Bool, true, false, not, ◌&&◌, ◌||◌, List, [], ◌∷◌, ℕ, ◌+◌, ◌-◌, ◌*◌, ◌/◌, drop, if◌then◌else◌}
+use Rattle.book.specs.Choice.{◌<ᵇ◌, ◌≤ᵇ◌, ◌≡ᵇ◌}
 use Rattle.book.specs.Total.{any, all}
 use Rattle.book.specs.Sizes.{Size, fits}
 use Rattle.book.specs.Steps.{Desk, idle, looked, holding}

@@ -1,4 +1,5 @@
 -- Demand 2 for the player, the refusals of a whole schedule, and a line for each step.
+use Rattle.std.specs.Prelude.{if◌then◌else◌}
 use mathlib.Core.Path.{◌≡◌, refl, ap, ◌∙◌}
 use mathlib.Core.Bool.{Bool, true, false, not, ◌&&◌}
 use mathlib.Core.List.{List, [], ◌∷◌, ◌++◌}
@@ -6,10 +7,8 @@ use Prim.Native.Nat.{ℕ, suc}
 use lib.Dec.{T}
 use lib.ListN.{length, length-append}
 use Rattle.words.specs.declared.Answer.{Answer}
-use Rattle.book.specs.Choice.{if◌then◌else◌}
 use Rattle.book.specs.Sizes.{fits}
 use Rattle.book.specs.Steps.{Step}
-use Rattle.book.specs.Book as B
 use Rattle.book.proofs.Choice.{and_first, and_second, T→true, not→false}
 use Rattle.line.specs.Line.{Line, opened}
 use Rattle.line.specs.Calls.{step, answers}

@@ -1,14 +1,14 @@
 -- The line that is played on: what opening gives over the store, and what a step leaves, lent again.
+use Rattle.std.specs.Prelude.{if◌then◌else◌}
 use mathlib.Core.Path.{◌≡◌, refl, sym, ap, subst⁻¹, ◌∙◌}
 use mathlib.Core.Bool.{false}
-use mathlib.Core.List.{List}
+use mathlib.Core.List.{List, ◌++◌}
 use Prim.Native.Nat.{ℕ, ◌*◌, ◌≤◌}
 use native.Mathlib.Omega.{arith}
 use lib.Dec.{T, ltb, ltb→lt, nltb→le}
-use lib.ListN.{length, drop, replicate, length-replicate}
-use lib.Seq.{take_at}
+use lib.ListN.{length, take, drop, replicate, length-replicate}
+use lib.Seq.{take_at, length-take-le}
 use Rattle.words.specs.declared.Answer.{Answer}
-use Rattle.book.specs.Choice.{if◌then◌else◌}
 use Rattle.book.specs.Sizes.{Size, fits}
 use Rattle.book.specs.Steps.{Step}
 use Rattle.book.proofs.Choice.{by_test, cases, choose_true, choose_false, T→true, not→false, eqb_same, le→true}
@@ -60,7 +60,7 @@ module _ (z : Size) (h : Head) (t : List Block) (n : ℕ) (es : List ℕ) (w : L
 
 -- ---- opening over the store
 
-pub entries_few : (nb ne : ℕ) → entries_lent nb ne ≤ store_entries
+entries_few : (nb ne : ℕ) → entries_lent nb ne ≤ store_entries
 entries_few nb ne = by_test (λ (k : ℕ). k ≤ store_entries) (ltb (nb * ne) store_entries) (λ t. let h = ltb→lt (nb * ne) store_entries t in omega arith) (λ t. omega arith)
 
 module _ (z : Size) where
@@ -91,7 +91,7 @@ module _ (z : Size) where
       answers : (o : Opened) → opens (line_of h t z.nb es) z ≡ o → r.answer ≡ o.answer
       answers o e = ap (λ (g : Given Opening). g.answer) (gives o e)
 
-      pub opened_line : r.answer ≡ Open → T (fits z) × (line_of r.head r.table z.nb fs ≡ opened z)
+      opened_line : r.answer ≡ Open → T (fits z) × (line_of r.head r.table z.nb fs ≡ opened z)
       unfolding opened
       opened_line e =
           cases (fits z)
@@ -105,11 +105,27 @@ module _ (z : Size) where
           ))
           (λ f. let k = answers _ (opens_by ∙ choose_false (fits z) _ _ f) in let no : ◌≡◌ {A = ℕ} 0 1 = cc in absurd (omega arith))
 
-      pub opened_not : r.answer ≡ Unfit → fits z ≡ false
+      opened_not : r.answer ≡ Unfit → fits z ≡ false
       opened_not e =
           cases (fits z)
           (λ f. let k = answers _ (opens_by ∙ choose_true (fits z) _ _ f) in let no : ◌≡◌ {A = ℕ} 0 1 = cc in absurd (omega arith))
           (not→false (fits z))
+
+  -- ---- of a store that is all zero, the first m entries are lent
+
+  module _ (h : Head) (t : List Block) (long : length t ≡ 64) (store : List ℕ) (m : ℕ) (zeros : store ≡ replicate store_entries 0) (lent : m ≡ entries_lent z.nb z.ne) where
+    took : length (take m store) ≡ m
+    took = length-take-le m store (omega (arith, ap length zeros ∙ length-replicate {A = ℕ} store_entries 0, entries_few z.nb z.ne))
+
+    module _ (r : OpeningOutcome) (fs : List ℕ) (p : GivesOpening h t z.nb (take m store) z r fs) where
+      -- what opening left of them is lent again
+      pub store_opened : length fs ≡ length (take m store) → r.answer ≡ Open → T (fits z) × (line_of r.head r.table z.nb (take m (fs ++ drop m store)) ≡ opened z)
+      store_opened kept e =
+          let o = opened_line h t (take m store) long (took ∙ lent) r fs p e in
+          (o.0, ap (λ (es : List ℕ). line_of r.head r.table z.nb es) (take_at fs (drop m store) m (kept ∙ took)) ∙ o.1)
+
+      pub store_unfit : r.answer ≡ Unfit → fits z ≡ false
+      store_unfit e = opened_not h t (take m store) long (took ∙ lent) r fs p e
 
 -- ---- what is said then
 

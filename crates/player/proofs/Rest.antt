@@ -3,20 +3,17 @@
 use mathlib.Core.Path.{◌≡◌, refl, sym, subst, ◌∙◌}
 use mathlib.Core.Bool.{Bool, true, false}
 use mathlib.Core.List.{List, [], ◌∷◌, ◌++◌, append-nil}
-use Prim.Native.Nat.{ℕ, suc, ◌+◌, ◌*◌, ◌≤◌, ◌<◌}
+use Prim.Native.Nat.{ℕ, suc, ◌+◌, ◌≤◌, ◌<◌}
 use native.Mathlib.Numerals.{add-one}
-use native.Mathlib.Omega.{arith}
 use lib.ListN.{length}
 use Rattle.line.specs.Line.{Line, Outcome}
 use Rattle.line.specs.Calls.{step, answers}
-use Rattle.schedule.specs.Bytes.{limit, step_at, whole_steps, is_cut}
-use Rattle.schedule.proofs.Bytes.{place_of, steps_behind, behind_none, behind_next, behind_all, steps_few, cut_few}
-use Rattle.printing.specs.Text.{numbers_below}
-use Rattle.printing.specs.Writes.{Writes, line_most}
+use Rattle.schedule.specs.Bytes.{step_at, whole_steps, is_cut}
+use Rattle.schedule.proofs.Bytes.{place_of, steps_behind, behind_none, behind_next, behind_all}
+use Rattle.printing.specs.Writes.{Writes}
 use Rattle.printing.proofs.Stores.{writes_more, writes_none}
 use Rattle.player.specs.Spoken.{Spoken, spoken, numbered, cut_at, cut_short, run}
 use Rattle.player.specs.Printed.{line, printed}
-use Rattle.player.specs.Parts.{text_bytes}
 
 module _ (bs : List ℕ) where
   pub rest_of : ℕ → Line → List Spoken
@@ -33,20 +30,6 @@ module _ (bs : List ℕ) where
   pub rest_last : (i : ℕ) (l : Line) → i ≡ whole_steps bs → rest_of i l ≡ cut_short bs
   unfolding rest_of numbered answers
   rest_last i l e = rw (behind_all bs i e) refl
-
-  -- ---- how many steps, and the room that they have
-
-  module _ (short : length bs ≤ limit) (i at : ℕ) (most : at ≤ line_most * i) where
-    -- 7,200 steps at most: four digits
-    pub number_few : (n : ℕ) → i ≤ whole_steps bs → n ≡ suc i → n < numbers_below
-    number_few n h e = omega (arith, steps_few bs short)
-
-    pub step_room : i < whole_steps bs → at + line_most ≤ text_bytes
-    step_room h = omega (arith, steps_few bs short)
-
-    -- where a step is cut short, there are fewer whole ones than a schedule can have
-    pub cut_room : (b : Bool) → b ≡ is_cut bs → b ≡ true → i ≡ whole_steps bs → at + line_most ≤ text_bytes
-    cut_room b c t e = omega (arith, cut_few bs short b c t)
 
   -- ---- what is written, and what is left
 

@@ -1,7 +1,6 @@
 -- What is proved of playing a schedule: demand 2 for the player, which line is the only one, and a line for each step.
 -- proofs/Demands.antt has a proof of each, under the same name in small letters.
-use Rattle.std.specs.Prelude.{◌≡◌, Bool, not, ◌&&◌, List, ◌++◌, ℕ, ◌+◌, T, length}
-use Rattle.book.specs.Choice.{if◌then◌else◌}
+use Rattle.std.specs.Prelude.{◌≡◌, Bool, not, ◌&&◌, List, ◌++◌, ℕ, ◌+◌, T, length, if◌then◌else◌}
 use Rattle.book.specs.Sizes.{fits}
 use Rattle.book.specs.Book as B
 use Rattle.schedule.specs.Bytes.{is_long, is_header, size_in, whole_steps, steps_of, is_cut}

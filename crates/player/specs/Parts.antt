@@ -1,7 +1,7 @@
 -- What the functions behind `play` promise and ask for: the room for a text, the entries that are lent, and what the
 -- line is played with.
-use Rattle.std.specs.Prelude.{◌≡◌, List, ℕ, ◌*◌, ◌≤◌, length, replicate}
-use Rattle.book.specs.Choice.{if◌then◌else◌, ◌<ᵇ◌}
+use Rattle.std.specs.Prelude.{◌≡◌, List, ℕ, ◌*◌, ◌≤◌, length, replicate, if◌then◌else◌}
+use Rattle.book.specs.Choice.{◌<ᵇ◌}
 use Rattle.line.specs.Line.{Line, size_of}
 use Rattle.line.specs.Agrees.{Lawful}
 use Rattle.schedule.specs.Bytes.{limit, header_bytes, most_steps}

@@ -1,10 +1,9 @@
 -- The lines that playing a schedule says. A line is a number, a word and a value: the refusal of the whole schedule, or
 -- the answer of each step, numbered from 1, and CUT where the last step is cut short.
-use Rattle.std.specs.Prelude.{List, [], ◌∷◌, ◌++◌, ℕ, suc}
+use Rattle.std.specs.Prelude.{List, [], ◌∷◌, ◌++◌, ℕ, suc, if◌then◌else◌}
 use Prim.Native.String.{String}
 use Rattle.words.specs.declared.Answer.{Answer}
 use Rattle.words.specs.Words.{said}
-use Rattle.book.specs.Choice.{if◌then◌else◌}
 use Rattle.book.specs.Sizes.{Size, fits}
 use Rattle.schedule.specs.Bytes.{is_long, is_header, size_in, whole_steps, steps_of, is_cut}
 use Rattle.line.specs.Line.{Line, opened}

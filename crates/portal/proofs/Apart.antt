@@ -1,5 +1,6 @@
 -- No two answers say the same: what is said of an answer tells which it is. So a promise that is an equation of what is
 -- said fixes the answer itself.
+use Rattle.std.specs.Prelude.{if◌then◌else◌}
 use mathlib.Core.Path.{◌≡◌, refl, sym, ap, ◌∙◌}
 use Prim.Native.Nat.{ℕ, ◌-◌}
 use lib.ListN.{get_or}
@@ -9,7 +10,7 @@ use Rattle.words.specs.declared.Answer.TheVariants.{Put, Got, Took, Whole, Seen,
 use Rattle.words.specs.declared.Refusal.TheVariants.{Unfit, Damaged, Badstep, Nodesk, Noblock, Stage, Owned, Nothing, Lost, Notlabel, Range, Worn, Full, Busy, Empty}
 use Rattle.words.specs.Words.{Said, said}
 use Rattle.words.specs.Spelling.{refusals}
-use Rattle.book.specs.Choice.{if◌then◌else◌, ◌≡ᵇ◌}
+use Rattle.book.specs.Choice.{◌≡ᵇ◌}
 use Rattle.line.specs.declared.Opening.{Opening}
 use Rattle.line.specs.declared.Opening.TheVariants.{Open, Unfit as NoLine}
 use Rattle.line.specs.declared.Checked.{Checked}

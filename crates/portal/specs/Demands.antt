@@ -1,6 +1,6 @@
 -- The demands, of the calls themselves: whatever outcomes their promises allow. proofs/Demands.antt has a proof of
 -- each, under the same name in small letters.
-use Rattle.std.specs.Prelude.{◌≡◌, ◌≢◌, ◌↔◌, List, [], ◌∷◌, map, ℕ, ◌+◌, ◌≤◌, ◌<◌, T, length}
+use Rattle.std.specs.Prelude.{◌≡◌, ◌≢◌, ◌↔◌, List, [], ◌∷◌, map, ℕ, ◌+◌, ◌≤◌, ◌<◌, T, length, if◌then◌else◌}
 use Rattle.words.specs.declared.Answer.{Answer}
 use Rattle.words.specs.declared.Answer.TheVariants.{Seen, Refused}
 use Rattle.words.specs.declared.Refusal.{Refusal}
@@ -9,7 +9,6 @@ use Rattle.book.specs.Sizes.{Size}
 use Rattle.book.specs.declared.DeskStep.TheVariants.{Look as look, Claim as claim}
 use Rattle.book.specs.declared.Deed.{Deed}
 use Rattle.book.specs.declared.Deed.TheVariants.{Get as get, Order as order, Desk as desk}
-use Rattle.book.specs.Choice.{if◌then◌else◌}
 use Rattle.book.specs.Steps.{Step, idle, decode, Hold, holding}
 use Rattle.book.specs.Book as B
 use Rattle.book.specs.Counts.{placed, got, took, won, lost, unfetched, times_held, waiting, handed, times, times_unfetched, times_waiting, bound}

@@ -1,9 +1,9 @@
 -- The text of a line: number, word and value with a space between, numbers in decimal without leading zeros, and a
 -- newline at the end. A text is a list of bytes.
-use Rattle.std.specs.Prelude.{List, [], ◌∷◌, ◌++◌, ℕ, zero, suc, ◌+◌, ◌/◌, ◌%◌}
+use Rattle.std.specs.Prelude.{List, [], ◌∷◌, ◌++◌, ℕ, zero, suc, ◌+◌, ◌/◌, ◌%◌, if◌then◌else◌}
 use Rattle.words.specs.declared.Answer.{Answer}
 use Rattle.words.specs.Words.{said, letters}
-use Rattle.book.specs.Choice.{if◌then◌else◌, ◌<ᵇ◌}
+use Rattle.book.specs.Choice.{◌<ᵇ◌}
 
 abbrev pub space : ℕ
 space = 32

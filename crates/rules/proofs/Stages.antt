@@ -1,4 +1,5 @@
 -- What a desk's stage says: 0 is idle, 1 looked, 2 claimed, 3 fetched; a number above 3 is no stage, and reads as idle.
+use Rattle.std.specs.Prelude.{if◌then◌else◌}
 use mathlib.Core.Path.{◌≡◌, refl, sym, ap, ap₂, subst, ◌∙◌}
 use mathlib.Core.Logic.{◌≢◌}
 use mathlib.Core.Bool.{Bool, true, false, not, ◌&&◌, ◌||◌}
@@ -8,7 +9,6 @@ use native.Mathlib.Omega.{arith}
 use lib.Dec.{T, leb, ltb, eqb}
 use borrow.Author.Tests.{ne_eqb, lt-leb}
 use mir.Val.{bool_byte}
-use Rattle.book.specs.Choice.{if◌then◌else◌}
 use Rattle.book.specs.Total.{any}
 use Rattle.book.specs.Steps.{Hold, Desk, idle, looked, holding, claimed_at, with_fetched}
 use Rattle.book.proofs.Choice.{by_test, and_false}

@@ -1,6 +1,6 @@
 -- Who holds: read off a desk's numbers, and the turns held in, made once for all blocks.
-use Rattle.std.specs.Prelude.{Bool, ◌||◌, ℕ}
-use Rattle.book.specs.Choice.{if◌then◌else◌, ◌≡ᵇ◌}
+use Rattle.std.specs.Prelude.{Bool, ◌||◌, ℕ, if◌then◌else◌}
+use Rattle.book.specs.Choice.{◌≡ᵇ◌}
 use Rattle.line.specs.declared.Desk.{Desk as LentDesk}
 
 -- claimed or fetched

@@ -12,6 +12,7 @@ pub fn is_long(input: &[u8]) -> bool
 }
 
 // The letters LBQ and version 1 in two bytes, high byte first; the three numbers follow them.
+#[tactic(auto, unfolding(crate::specs::Bytes::is_header))]
 pub fn is_header(input: &[u8]) -> bool
     ensures { result ≡ is_header input.now }
 {

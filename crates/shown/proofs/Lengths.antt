@@ -1,13 +1,14 @@
 -- How long a line is: eight letters, numbers of ten digits and their spaces, and a newline.
+use Rattle.std.specs.Prelude.{if◌then◌else◌}
 use mathlib.Core.Bool.{Bool, true, false, ◌&&◌}
-use mathlib.Core.List.{List, [], ◌∷◌, ◌++◌}
+use mathlib.Core.List.{List, [], ◌∷◌}
 use Prim.Native.Nat.{ℕ, ◌+◌, ◌-◌, ◌^◌, ◌≤◌, ◌<◌}
 use Prim.Native.String.{String}
 use native.Mathlib.Omega.{arith}
 use lib.Dec.{lit≤}
 use lib.ListN.{length, length-append}
 use Rattle.words.specs.Words.{letters}
-use Rattle.book.specs.Choice.{if◌then◌else◌, ◌≡ᵇ◌}
+use Rattle.book.specs.Choice.{◌≡ᵇ◌}
 use Rattle.book.specs.Sizes.{within}
 use Rattle.book.specs.Steps.{Step}
 use Rattle.printing.specs.Text.{decimal}

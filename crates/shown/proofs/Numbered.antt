@@ -1,16 +1,12 @@
 -- The numbers of a line, written one behind the other, each with a space before it.
 use mathlib.Core.Path.{◌≡◌, refl, sym, ap, ap₂, subst, ◌∙◌}
 use mathlib.Core.List.{List, [], ◌∷◌, ◌++◌, append-nil, append_assoc}
-use mathlib.Core.Bool.{Bool, true, ◌&&◌}
-use Prim.Native.Nat.{ℕ, zero, suc, ◌+◌, ◌≤◌, ◌<◌, ◌^◌}
+use Prim.Native.Nat.{ℕ, suc, ◌+◌, ◌≤◌, ◌<◌, ◌^◌}
 use native.Mathlib.Numerals.{add-one}
 use native.Mathlib.Nat.{le_of_lt}
 use native.Mathlib.Omega.{arith}
 use lib.ListN.{length, take, drop, set, get_or, length-append}
 use lib.Seq.{take-suc, take_at, set_split, append_snoc, length-take-le}
-use lib.Dec.{T, leb, leb→le}
-use Rattle.book.specs.Sizes.{within}
-use Rattle.book.proofs.Choice.{and_first}
 use Rattle.printing.specs.Text.{decimal}
 use Rattle.printing.specs.Writes.{Writes}
 use Rattle.printing.proofs.Decimals.{decimal_short}
@@ -60,9 +56,3 @@ copied_next i ns bs b h k e f =
     let t : take (i + 1) (set ns i b) ≡ take i ns ++ (b ∷ []) = ap (take (i + 1)) s ∙ take_at (take i ns ++ (b ∷ [])) (drop (suc i) ns) (i + 1) n in
     let u : take (i + 1) bs ≡ take i bs ++ (get_or bs i 0 ∷ []) = rw (add-one i) (take-suc bs i 0 k) in
     t ∙ ap₂ (λ (l : List ℕ) (x : ℕ). l ++ (x ∷ [])) f e ∙ sym u
-
--- a code among those of a desk's step is the first of them at least
-pub first_code : (low high n : ℕ) (x : Bool) → (within low high n && x) ≡ true → low ≤ n
-first_code low high n x e =
-    let t : T (within low high n && x) = subst T (sym e) tt in
-    leb→le low n (and_first (leb low n) (leb n high) (and_first (within low high n) x t))

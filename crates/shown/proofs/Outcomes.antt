@@ -1,11 +1,11 @@
 -- The whole schedule: which of the tests decides, the text of its parts, and that the promise allows one outcome only.
+use Rattle.std.specs.Prelude.{if◌then◌else◌}
 use mathlib.Core.Path.{◌≡◌, refl, sym, ap, ap₂, subst, ◌∙◌}
 use mathlib.Core.Bool.{Bool, true, false}
 use mathlib.Core.List.{List, [], ◌∷◌, ◌++◌}
 use Prim.Native.Nat.{ℕ, ◌≤◌}
 use native.Mathlib.Omega.{arith}
 use lib.ListN.{length, drop, length-append}
-use Rattle.book.specs.Choice.{if◌then◌else◌}
 use Rattle.book.specs.Sizes.{fits}
 use Rattle.schedule.specs.Bytes.{is_long, is_header, byte_at, size_in, steps_of}
 use Rattle.printing.specs.Writes.{Writes}

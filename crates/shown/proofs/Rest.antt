@@ -2,28 +2,17 @@
 -- what is written has written all the steps.
 use mathlib.Core.Path.{◌≡◌, refl, sym, ap, subst, ◌∙◌}
 use mathlib.Core.Bool.{Bool, true, false}
-use mathlib.Core.List.{List, [], ◌∷◌, ◌++◌}
+use mathlib.Core.List.{List, ◌∷◌}
 use Prim.Native.Nat.{ℕ, ◌+◌, ◌*◌, ◌≤◌, ◌<◌}
-use native.Mathlib.Omega.{arith}
 use lib.ListN.{length, drop}
 use Rattle.book.specs.Steps.{Step}
-use Rattle.schedule.specs.Bytes.{limit, header_bytes, step_bytes, step_at, whole_steps, steps_of, is_cut}
-use Rattle.schedule.proofs.Bytes.{place_of, steps_behind, behind_none, behind_next, behind_all, steps_few, cut_few}
+use Rattle.schedule.specs.Bytes.{header_bytes, step_bytes, step_at, whole_steps, steps_of, is_cut}
+use Rattle.schedule.proofs.Bytes.{place_of, steps_behind, behind_none, behind_next, behind_all}
 use Rattle.printing.specs.Writes.{Writes}
 use Rattle.printing.proofs.Stores.{writes_more, writes_none}
 use Rattle.shown.specs.Shown.{line_text, step_text, steps_text, cut_bytes, cut_text}
-use Rattle.shown.specs.Parts.{line_most, any_line, room_bytes}
 
 module _ (bs : List ℕ) where
-  -- ---- the room
-
-  module _ (few : length bs ≤ limit) (i at : ℕ) (most : at ≤ line_most + line_most * i) where
-    pub step_room : i < whole_steps bs → at + any_line ≤ room_bytes
-    step_room h = omega (arith, steps_few bs few)
-
-    pub cut_room : (b : Bool) → b ≡ is_cut bs → b ≡ true → i ≡ whole_steps bs → at + any_line ≤ room_bytes
-    cut_room b c t e = omega (arith, cut_few bs few b c t)
-
   -- ---- the steps
 
   pub Continues : ℕ → List ℕ → ℕ → ℕ → List ℕ → Type 0

@@ -1,7 +1,6 @@
 -- Schedules, as bytes, and their text. proofs/Cases.antt computes them.
-use Rattle.std.specs.Prelude.{◌≡◌, List, [], ◌∷◌, ◌++◌, map, ℕ}
+use Rattle.std.specs.Prelude.{◌≡◌, [], ◌∷◌, ◌++◌, map}
 use Rattle.words.specs.Words.{letters}
-use Rattle.book.specs.Steps.{Step}
 use Rattle.book.specs.Sizes.{sized}
 use Rattle.book.specs.Messages.{raw, put, get, order, claim, fetch, finish, look, most}
 use Rattle.schedule.specs.Bytes.{schedule_of}

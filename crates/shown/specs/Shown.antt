@@ -1,10 +1,10 @@
 -- The text of a schedule: a line for the header, a line for each step, and the bytes of a step that is cut short. A step
 -- whose ignored numbers are not 0 is shown by its code, so that nothing is lost.
-use Rattle.std.specs.Prelude.{Bool, ◌&&◌, List, [], ◌∷◌, ◌++◌, ℕ, ◌+◌, ◌-◌, ◌*◌, length, drop}
+use Rattle.std.specs.Prelude.{◌&&◌, List, [], ◌∷◌, ◌++◌, ℕ, ◌+◌, ◌-◌, ◌*◌, length, drop, if◌then◌else◌}
 use Prim.Native.String.{String}
 use Rattle.words.specs.Words.{letters}
-use Rattle.book.specs.Choice.{if◌then◌else◌, ◌≡ᵇ◌}
-use Rattle.book.specs.Sizes.{Size, within, fits}
+use Rattle.book.specs.Choice.{◌≡ᵇ◌}
+use Rattle.book.specs.Sizes.{within, fits}
 use Rattle.book.specs.Steps.{Step}
 use Rattle.schedule.specs.Bytes.{header_bytes, step_bytes, is_long, is_header, size_in, whole_steps, steps_of, is_cut}
 use Rattle.printing.specs.Text.{space, newline, decimal}

@@ -29,6 +29,7 @@ pub enum Shown {
 }
 
 // NB, NE and T within their limits.
+#[tactic(auto, unfolding(book::specs::Sizes::fits))]
 fn fits_limits(nb: u8, ne: u8, t: u8) -> bool
     ensures { result ≡ fits (sized nb ne t) }
 {

@@ -31,6 +31,7 @@ fn line_of(bytes: [u8; 8], len: u8, count: usize, a: u32, b: u32, c: u32) -> Lin
 }
 
 // The line of a step.
+#[tactic(auto, unfolding(crate::specs::Shown::step_text))]
 pub fn step_line(m: Message) -> Line
     ensures result_value { text_of result ≡ step_text (step_of m) }
     ensures small { Small result }

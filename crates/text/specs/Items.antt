@@ -1,7 +1,7 @@
 -- What a line asks for. The first word says which form the line has: a step with its code, and how many numbers follow.
-use Rattle.std.specs.Prelude.{Bool, true, false, ◌&&◌, List, [], ◌∷◌, ℕ, zero, suc, ◌+◌, length, get_or}
+use Rattle.std.specs.Prelude.{Bool, true, false, ◌&&◌, List, [], ◌∷◌, ℕ, zero, suc, ◌+◌, length, get_or, if◌then◌else◌}
 use Rattle.words.specs.Words.{letters}
-use Rattle.book.specs.Choice.{if◌then◌else◌, ◌<ᵇ◌, ◌≤ᵇ◌, ◌≡ᵇ◌}
+use Rattle.book.specs.Choice.{◌<ᵇ◌, ◌≤ᵇ◌, ◌≡ᵇ◌}
 use Rattle.text.specs.declared.items.Kind.{Kind}
 use Rattle.text.specs.declared.items.Kind.TheVariants.{IsStep, IsSize, IsBytes, IsTimes, IsName, Unknown}
 use Rattle.text.specs.declared.items.Wanted.{Wanted}

@@ -1,9 +1,9 @@
 -- What the functions behind `bytes_of` promise: where a word stands, where a line ends, and the numbers that were read.
-use Rattle.std.specs.Prelude.{◌≡◌, Bool, List, [], ◌∷◌, ◌++◌, ℕ, suc, ◌+◌, ◌-◌, ◌≤◌, ◌<◌, length, take, drop}
+use Rattle.std.specs.Prelude.{◌≡◌, Bool, List, [], ◌∷◌, ◌++◌, ℕ, suc, ◌+◌, ◌-◌, ◌≤◌, ◌<◌, length, take, drop, if◌then◌else◌}
 use Rattle.text.specs.declared.pieces.Stop.{Stop}
 use Rattle.text.specs.declared.pieces.Stop.TheVariants.{Blank, Letter, InLine}
 use Rattle.text.specs.declared.pieces.Part.{Part}
-use Rattle.book.specs.Choice.{if◌then◌else◌, ◌≡ᵇ◌}
+use Rattle.book.specs.Choice.{◌≡ᵇ◌}
 use Rattle.text.specs.declared.items.Args.{Args}
 use Rattle.text.specs.declared.lines.Answer.{Answer}
 use Rattle.text.specs.declared.lines.Answer.TheVariants.{Made, Bad}

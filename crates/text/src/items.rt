@@ -1,6 +1,5 @@
 // What a line asks for: the form that its first word has, its numbers, and the item that they make.
-ghost use Rattle.std.specs.Prelude.{◌≡◌, Bool, ℕ, ◌+◌, ◌≤◌, ◌<◌, length, drop};
-ghost use Rattle.book.specs.Choice.{if◌then◌else◌};
+ghost use Rattle.std.specs.Prelude.{◌≡◌, Bool, ℕ, ◌+◌, ◌≤◌, ◌<◌, length, drop, if◌then◌else◌};
 ghost use Rattle.text.specs.Pieces.{behind, numbers};
 ghost use Rattle.text.specs.Items.{plain, adding, other, form_of, other_form_of, args_of, larger, step_item, size_item, bytes_item, times_item, name_item, name_of, item_by, item, is_named, is_refused, wanted_of};
 ghost use Rattle.text.specs.Parts.{more};

@@ -1,6 +1,6 @@
 -- Every printed word of an answer, spelt as the paper spells it: the good answers, then the refusals in the order of the paper's
 -- table. To be held beside the paper. proofs/Laws.antt computes it.
-use Rattle.std.specs.Prelude.{◌≡◌, List, [], ◌∷◌, ◌++◌, map, ℕ}
+use Rattle.std.specs.Prelude.{◌≡◌, List, [], ◌∷◌, map, ℕ}
 use Prim.Native.String.{String}
 use Rattle.words.specs.Words.{Refusal, Unfit, Damaged, Badstep, Nodesk, Noblock, Stage, Owned, Nothing, Lost, Notlabel, Range, Worn, Full, Busy, Empty}
 use Rattle.words.specs.Words.{Answer, Put, Got, Took, Whole, Seen, Claimed, Done, Refused, said}
