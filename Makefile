@@ -11,7 +11,7 @@ help:
 	@echo "make text SCHEDULE=file   a schedule's bytes as text"
 	@echo "make test                 prove every crate from nothing, try every must-fail edit, run every program"
 	@echo "make lib                  the library for C and Rust (x86-64): target/staticlib/liblbq.a"
-	@echo "make native               the same proved module for this machine, for comparing: target/native/liblbq.a"
+	@echo "make native               the same by the toolchain's other compiler, for comparing: target/native/liblbq.a"
 	@echo "make first                build and run the C examples"
 	@echo "make rust                 the Rust crate's tests, and the library compared with a model in plain Rust"
 	@echo "make soak STEPS=n         compare n steps more; SEED=s repeats a run"
@@ -26,31 +26,30 @@ play: toolchain
 text: toolchain
 	@schedules/text "$(SCHEDULE)"
 
-# What is stored, then the library as C and Rust link it, then the verdict from nothing: every crate proved, every
-# must-fail edit refused, every program run. The verdict empties target/; the library is put back for `cargo build`.
+# What is stored, then the library as C and Rust link it, then the verdict from nothing: every file in the layout, every
+# crate proved, every must-fail edit refused, every program run. An edit that could not be applied shows nothing, and
+# fails here too. The library is left where `cargo build` finds it.
 test: toolchain stored linked
-	@rt ci
+	@mkdir -p target && rm -f target/verdict.*
+	@{ rt ci; echo $$? >target/verdict.status; } 2>&1 | tee target/verdict.log
+	@exit "$$(cat target/verdict.status)"
+	@if grep -q '^rt: ok.*, [1-9][0-9]* bad' target/verdict.log; then \
+	    echo "must-fail edits could not be applied: see 'bad' above" >&2; exit 1; fi
 	@$(MAKE) --no-print-directory keep-lib >/dev/null
 
-# Every file is in the layout, and every stored schedule is what its text says.
+# Every stored schedule is what its text says.
 stored: toolchain
-	@rt fmt --check
 	@schedules/check
 
-# The house is proved with the toolchains that the file `toolchain` names. Another one may do as well.
+# The house is proved with the toolchain that the file `toolchain` names. Another one may do as well.
 toolchain:
 	@command -v rt >/dev/null || { echo "there is no rt here: install the Rattle toolchain and put its bin/ on PATH" >&2; exit 1; }
 	@grep -qxF "$$(rt version)" toolchain || \
-	    echo "note: rt is '$$(rt version)', and this house was proved with those that the file toolchain names" >&2
+	    echo "note: rt is '$$(rt version)', and this house was proved with the one that the file toolchain names" >&2
 
-# The library is for x86-64; on another machine the proved module is compiled for it. Where cargo and a C compiler are at
-# hand it is linked and compared with the model.
+# Where cargo and a C compiler are at hand the library is linked and compared with the model.
 have = $(shell command -v $(1))
-linked: $(if $(and $(call have,cargo),$(call have,$(CC)),$(call have,$(CXX))),$(if $(filter x86_64,$(shell uname -m)),first rust,elsewhere),unlinked)
-
-.PHONY: elsewhere
-elsewhere: native
-	@$(MAKE) --no-print-directory first rust LBQ_LIB_DIR=target/native
+linked: $(if $(and $(call have,cargo),$(call have,$(CC)),$(call have,$(CXX))),first rust,unlinked)
 
 unlinked:
 	@echo "no cargo or no C compiler here: the library is not linked, and not compared with the model"

@@ -8,40 +8,33 @@ CFLAGS ?= -O2 -Wall -Wextra -Wpedantic -Werror
 c99 := $(CC) $(CFLAGS) -std=c99 -Iinclude
 cxx11 := $(CXX) $(CFLAGS) -std=c++11 -Iinclude -x c++ -fsyntax-only
 
-# The toolchain's library is for x86-64. Elsewhere `make native` compiles the proved module for the machine at hand.
-machine := $(shell uname -m)
-elsewhere := $(filter-out x86_64,$(machine))
-use_native := the library is for x86-64, and this machine is $(machine): `make native`, then LBQ_LIB_DIR=target/native
-lbq_lib := $(if $(LBQ_LIB_DIR),given,$(if $(elsewhere),unlinkable,lib))
+lbq_lib := $(if $(LBQ_LIB_DIR),given,lib)
 override LBQ_LIB_DIR := $(if $(LBQ_LIB_DIR),$(abspath $(LBQ_LIB_DIR)),$(CURDIR)/target/staticlib)
 export LBQ_LIB_DIR
 linked_with = -L$(LBQ_LIB_DIR) -llbq $(LBQ_LINK)
 if_installed = cd rust && if cargo $(1) --version >/dev/null 2>&1; then cargo $(1) $(2); \
 	else echo "there is no cargo $(1) here, so nothing is said of the Rust code by it"; fi
 
-.PHONY: lib keep-lib native given unlinkable first rust soak bench
+.PHONY: lib keep-lib native given first rust soak bench
 
 # The library for C and Rust: target/staticlib/liblbq.a.
 lib:
-	@$(RT) staticlib lbq
-	@$(if $(elsewhere),echo '$(use_native)')
+	@mkdir -p target/staticlib
+	@cd crates/lbq && $(RT) lib
+	@cp crates/lbq/out/liblbq.a target/staticlib/
 
-# The gate begins with an empty target/. This puts the library back where `cargo build` finds it; it is proved by then.
+# The library where `cargo build` finds it, after the gate; it is proved by then.
 keep-lib:
 	@mkdir -p target
-	@$(RT) staticlib lbq >target/keep-lib.log 2>&1 || { cat target/keep-lib.log; exit 1; }
+	@$(MAKE) --no-print-directory lib >target/keep-lib.log 2>&1 || { cat target/keep-lib.log; exit 1; }
 	@echo "the library is target/staticlib/liblbq.a, for x86-64"
 
-# The same proved module compiled for this machine into target/native: for comparing, and no output of the toolchain.
+# The same proved module by the toolchain's other compiler into target/native: for comparing.
 native:
 	@rust/native-lib target/native
 
 given:
 	@test -f "$(LBQ_LIB_DIR)/liblbq.a" || { echo "LBQ_LIB_DIR: there is no $(LBQ_LIB_DIR)/liblbq.a" >&2; exit 1; }
-
-unlinkable:
-	@echo '$(use_native)' >&2
-	@exit 1
 
 # The C examples, built as C and the header as C++, print what they should: first.c its lines, play.c every stored
 # schedule's, the README's program its own. The header's numbers and words are held to the proved definitions.
