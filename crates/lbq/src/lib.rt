@@ -1,6 +1,6 @@
 #![tactic(auto)]
 
-// The portal's calls for C and Rust. `rt staticlib lbq` writes them to target/staticlib/liblbq.a.
+// The portal's calls for C and Rust. `make lib` writes them to target/staticlib/liblbq.a.
 //
 // What crosses are numbers and records of numbers. A caller lends its own memory, head, table and entries, laid out as
 // C lays out
@@ -28,7 +28,7 @@ mod narrow;
 mod replies;
 mod version;
 
-ghost use Rattle.portal.specs.Promises.{before, after, the_size, the_step};
+ghost use Rattle.portal.specs.Promises.{lent, the_size, the_step};
 ghost use Rattle.lbq.specs.Promises.{RepliesOpening, RepliesStep, RepliesOrder, RepliesCheck, RepliesSurvey};
 
 use line::{Block, Head};
@@ -44,7 +44,7 @@ pub extern "C" fn lbq_open(
     ne: u32,
     t: u32,
 ) -> Reply
-    ensures { RepliesOpening (before head table entries) (the_size nb ne t) result (after head table entries) }
+    ensures { RepliesOpening (lent head.old table.old entries.old) (the_size nb ne t) result (lent head.new table.new entries.new) }
 {
     let b = narrow::size(nb);
     let e = narrow::size(ne);
@@ -63,7 +63,7 @@ pub extern "C" fn lbq_step(
     a: u32,
     b: u32,
 ) -> Reply
-    ensures { RepliesStep (before head table entries) (the_step code a b) result (after head table entries) }
+    ensures { RepliesStep (lent head.old table.old entries.old) (the_step code a b) result (lent head.new table.new entries.new) }
 {
     let c = narrow::code(code);
     let answer = portal::step(head, table, entries, c, a, b);
@@ -79,7 +79,7 @@ pub extern "C" fn lbq_order(
     first: u32,
     last: u32,
 ) -> Reply
-    ensures { RepliesOrder (before head table entries) first last result (after head table entries) }
+    ensures { RepliesOrder (lent head.old table.old entries.old) first last result (lent head.new table.new entries.new) }
 {
     let answer = portal::order(head, table, entries, first, last);
     replies::of_answer(answer)
@@ -88,7 +88,7 @@ pub extern "C" fn lbq_order(
 // Is the line sound? Nothing is changed.
 #[unsafe(no_mangle)]
 pub extern "C" fn lbq_check(head: &Head, table: &[Block], entries: &[u32]) -> CheckReply
-    ensures { RepliesCheck (before head table entries) result }
+    ensures { RepliesCheck (lent head.now table.now entries.now) result }
 {
     let checked = portal::check(head, table, entries);
     replies::of_check(checked)
@@ -97,7 +97,7 @@ pub extern "C" fn lbq_check(head: &Head, table: &[Block], entries: &[u32]) -> Ch
 // Where could an idle desk take from? Nothing is changed.
 #[unsafe(no_mangle)]
 pub extern "C" fn lbq_survey(head: &Head, table: &[Block], entries: &[u32]) -> SurveyReply
-    ensures { RepliesSurvey (before head table entries) result }
+    ensures { RepliesSurvey (lent head.now table.now entries.now) result }
 {
     let views = portal::survey(head, table, entries);
     replies::of_survey(views)

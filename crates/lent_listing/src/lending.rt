@@ -1,5 +1,5 @@
 // A line that is held by value is lent to the portal's calls for one call, and handed back: head and table stand in
-// locals, to which `&mut Head` and `&mut [Block]` are made. These two functions are proved by hand.
+// locals, to which `&mut Head` and `&mut [Block]` are made.
 ghost use Rattle.portal.specs.Promises.{lent, the_size, the_step, Opens, Steps};
 
 use line::{Block, Head, Opening};

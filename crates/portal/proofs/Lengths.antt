@@ -7,7 +7,7 @@ use lib.Dec.{T, eqb, eqb→eq}
 use lib.ListN.{length, length-set, length-replicate}
 use Rattle.words.specs.declared.Refusal.TheVariants.{Unfit as Refusal·unfit}
 use Rattle.book.specs.Choice.{◌<ᵇ◌}
-use Rattle.book.specs.Sizes.{Size, fits, is_order, block_of}
+use Rattle.book.specs.Sizes.{Size, fits, is_order}
 use Rattle.book.specs.declared.DeskStep.{DeskStep}
 use Rattle.book.specs.declared.Deed.{Deed}
 use Rattle.book.specs.declared.Deed.TheVariants.{Put as put, Get as get, Order as order, Desk as desk, Unlisted as unlisted}

@@ -3,8 +3,6 @@
 -- what it says: its number and its values. No two answers say the same, so the equation fixes the answer too:
 -- proofs/Apart.antt.
 use Rattle.std.specs.Prelude.{◌≡◌, List, ℕ}
-use Rattle.std.specs.Borrow.{Bor}
-use denote.Triple.Both.{Both}
 use Rattle.words.specs.declared.Answer.{Answer}
 use Rattle.words.specs.Words.{Said, said}
 use Rattle.book.specs.Sizes.{Size}
@@ -30,14 +28,6 @@ the_size nb ne t = record { nb = nb; ne = ne; t = t }
 
 abbrev pub the_step : ℕ → ℕ → ℕ → Step
 the_step code a b = record { code = code; a = a; b = b }
-
--- what three references lend when a call begins, and what is behind them when it ends
-module _ {A B C : Type 0} where
-  abbrev pub before : Both (Bor Head) A → Both (Bor (List Block)) B → Both (Bor (List ℕ)) C → Line
-  before h t es = lent h.entry.now t.entry.now es.entry.now
-
-  abbrev pub after : Both A (Bor Head) → Both B (Bor (List Block)) → Both C (Bor (List ℕ)) → Line
-  after h t es = lent h.exit.now t.exit.now es.exit.now
 
 -- what is told of a call that may change the line: the line afterwards, and what its answer says
 pub record Told : Type 0 where

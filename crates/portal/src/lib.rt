@@ -20,7 +20,7 @@
 //
 // `words::number`, `words::value` and `words::word` tell an answer's number, value and word. Each
 // call's promise is one equation with the line's own definitions: specs/Promises.antt.
-ghost use Rattle.portal.specs.Promises.{before, after, the_size, the_step, Opens, Steps, Orders, Checks, Surveys};
+ghost use Rattle.portal.specs.Promises.{lent, the_size, the_step, Opens, Steps, Orders, Checks, Surveys};
 
 use line::{Block, Checked, Findings, Head, Opening};
 use words::Answer;
@@ -34,7 +34,7 @@ pub fn open(
     ne: u16,
     t: u16,
 ) -> Opening
-    ensures { Opens (before head table entries) (the_size nb ne t) result (after head table entries) }
+    ensures { Opens (lent head.old table.old entries.old) (the_size nb ne t) result (lent head.new table.new entries.new) }
 {
     let n = table.len();
     let records = table::load(table);
@@ -55,7 +55,7 @@ pub fn step(
     a: u32,
     b: u32,
 ) -> Answer
-    ensures { Steps (before head table entries) (the_step code a b) result (after head table entries) }
+    ensures { Steps (lent head.old table.old entries.old) (the_step code a b) result (lent head.new table.new entries.new) }
 {
     let n = table.len();
     let records = table::load(table);
@@ -75,7 +75,7 @@ pub fn order(
     first: u32,
     last: u32,
 ) -> Answer
-    ensures { Orders (before head table entries) first last result (after head table entries) }
+    ensures { Orders (lent head.old table.old entries.old) first last result (lent head.new table.new entries.new) }
 {
     let n = table.len();
     let records = table::load(table);
@@ -89,7 +89,7 @@ pub fn order(
 
 // Is the line sound? Nothing is changed.
 pub fn check(head: &Head, table: &[Block], entries: &[u32]) -> Checked
-    ensures { Checks (before head table entries) result }
+    ensures { Checks (lent head.now table.now entries.now) result }
 {
     let n = table.len();
     let m = entries.len();
@@ -100,7 +100,7 @@ pub fn check(head: &Head, table: &[Block], entries: &[u32]) -> Checked
 
 // Where could an idle desk take from? Nothing is changed.
 pub fn survey(head: &Head, table: &[Block], entries: &[u32]) -> Findings
-    ensures { Surveys (before head table entries) result }
+    ensures { Surveys (lent head.now table.now entries.now) result }
 {
     let n = table.len();
     let m = entries.len();

@@ -7,7 +7,7 @@ use mir.Syntax.{named}
 use mir.Val.{Val}
 use base.Fml.{Lft, Fml}
 use types.Logic.{Logic}
-use denote.RattleType.{RattleType}
+use denote.RattleType.{RattleType, RowLaws}
 use denote.Memory.{mem}
 use denote.Array.{Array, array_vals, Array-Tells, Array-Lawful, Array-Makes}
 use denote.Ref.{Bor, MutBor}
@@ -49,6 +49,10 @@ Shared κ x = (ShrSlice (named 0) κ RB).own_val x (shr_slice_vals x)
 
 abbrev pub Lent : Lft → MutBor (List Block) → Fml
 Lent κ x = (MutSlice (named 0) κ RB).own_val x (mut_slice_vals x)
+
+-- what a `&` to a record holds at a lifetime, at each place
+pub record_row_laws : RowLaws RB
+record_row_laws d = (LL.field_copy B.the_type B'.the_copy).shr_laws ((B.the_type).to d)
 
 -- how many bytes a record has
 abbrev pub bytes_each : ℕ

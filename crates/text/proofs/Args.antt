@@ -1,17 +1,16 @@
 -- The numbers of a line, gathered one by one.
 use mathlib.Core.Path.{◌≡◌, refl, sym, ap, ◌∙◌}
 use mathlib.Core.List.{List, [], ◌∷◌, ◌++◌, append-nil, append_assoc}
-use Prim.Native.Nat.{ℕ, zero, suc, ◌+◌, ◌≤◌, ◌<◌}
-use native.Mathlib.Numerals.{add-one}
+use Prim.Native.Nat.{ℕ, ◌+◌, ◌≤◌, ◌<◌}
 use native.Mathlib.Omega.{arith}
-use lib.ListN.{length, get_or, drop, drop_of_length-le, length-append}
+use lib.ListN.{length, drop, drop_of_length-le, length-append}
 use Rattle.book.proofs.Choice.{neq→eqb}
 use Rattle.text.specs.declared.pieces.Part.{Part}
 use Rattle.text.specs.declared.items.Args.{Args}
 use Rattle.text.specs.Pieces.{numbers, value}
 use Rattle.text.specs.Items.{larger, largest, args_of}
 use Rattle.text.specs.Parts.{within, WordAt, more}
-use Rattle.text.proofs.Words.{numbers_nil, numbers_end, numbers_next}
+use Rattle.text.proofs.Words.{numbers_nil, numbers_next}
 
 largest_last : (m : ℕ) (ns : List ℕ) (n : ℕ) → largest m (ns ++ (n ∷ [])) ≡ larger (largest m ns) n
 unfolding largest

@@ -1,15 +1,14 @@
 -- The lines of a text, one after the other: the first one, and those behind it.
-use mathlib.Core.Path.{◌≡◌, refl, sym, ap, subst, ◌∙◌}
-use mathlib.Core.Bool.{Bool, true, false, not}
-use mathlib.Core.List.{List, [], ◌∷◌, ◌++◌}
-use Prim.Native.Nat.{ℕ, zero, suc, ◌+◌, ◌-◌, ◌≤◌, ◌<◌}
-use native.Mathlib.Numerals.{add-one}
+use mathlib.Core.Path.{◌≡◌, refl, sym, ap, ◌∙◌}
+use mathlib.Core.Bool.{true, false, not}
+use mathlib.Core.List.{List, [], ◌∷◌}
+use Prim.Native.Nat.{ℕ, suc, ◌+◌, ◌-◌, ◌≤◌, ◌<◌}
 use native.Mathlib.Omega.{arith}
 use lib.Dec.{eqb}
-use lib.ListN.{length, get_or, take, drop, length-drop}
+use lib.ListN.{length, take, drop, length-drop}
 use lib.Seq.{drop-drop, length-take-le, take-take}
 use Rattle.book.proofs.Choice.{cases, T→true, not→false}
-use Rattle.text.specs.Pieces.{onto, lines, bare_length, bare, is_in_line, span}
+use Rattle.text.specs.Pieces.{onto, lines, bare_length, is_in_line, span}
 use Rattle.text.specs.Parts.{LineAt}
 use Rattle.text.proofs.Runs.{span_yes, span_no, span_none, span_within}
 

@@ -2,14 +2,14 @@
 use mathlib.Core.Path.{◌≡◌, refl, sym, ap, subst, ◌∙◌}
 use mathlib.Core.Bool.{Bool, true, false, not, ◌&&◌}
 use mathlib.Core.List.{List, [], ◌∷◌}
-use Prim.Native.Nat.{ℕ, zero, suc, ◌+◌, ◌-◌, ◌*◌, ◌≤◌, ◌<◌}
+use Prim.Native.Nat.{ℕ, suc, ◌+◌, ◌-◌, ◌*◌, ◌≤◌, ◌<◌}
 use native.Mathlib.Numerals.{add-one}
 use native.Mathlib.Omega.{arith}
 use lib.Dec.{T, leb, leb→le, le→leb}
 use lib.ListN.{length, get_or, drop, drop_of_length-le}
 use lib.Seq.{drop-cons}
 use Rattle.book.specs.Total.{all}
-use Rattle.book.proofs.Choice.{cases, choose_true, choose_false, not→false, and_first, and_second, and_in}
+use Rattle.book.proofs.Choice.{cases, choose_true, choose_false, and_first, and_second, and_in}
 use Rattle.printing.specs.Decimal.{read_from, is_digit}
 use Rattle.text.specs.Pieces.{is_none, greatest, is_number, value}
 
@@ -57,9 +57,6 @@ pub record Reading (w : List ℕ) (n i : ℕ) : Type 0 where
   pub reads : read_from n (drop i w) ≡ read_from 0 w
   pub digits : all is_digit (drop i w) ≡ all is_digit w
 
-pub reading_start : (w : List ℕ) → 1 ≤ length w → Reading w 0 0
-reading_start w h = record { some = h; within = omega arith; small = omega arith; reads = refl; digits = refl }
-
 module _ (w : List ℕ) (n i : ℕ) (r : Reading w n i) where
   pub reading_end : length w ≤ i → n ≡ value w
   unfolding all
@@ -95,9 +92,3 @@ module _ (w : List ℕ) (n i : ℕ) (r : Reading w n i) where
       reads = rw (add-one i) more;
       digits = rw (add-one i) (sym (parts ∙ rw e refl));
     }
-
-pub digit_low : (d : ℕ) → T (is_digit d) → 48 ≤ d
-digit_low d t = leb→le 48 d (and_first (leb 48 d) (leb d 57) t)
-
-pub digit_high : (d : ℕ) → T (is_digit d) → d ≤ 57
-digit_high d t = leb→le d 57 (and_second (leb 48 d) (leb d 57) t)

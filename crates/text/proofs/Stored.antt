@@ -1,11 +1,11 @@
 -- The numbers of a line, stored one by one as bytes.
 use mathlib.Core.Path.{◌≡◌, refl, sym, ap, subst, ◌∙◌}
 use mathlib.Core.List.{List, [], ◌∷◌, ◌++◌, map, append-nil, append_assoc}
-use Prim.Native.Nat.{ℕ, zero, suc, ◌+◌, ◌≤◌, ◌<◌}
+use Prim.Native.Nat.{ℕ, suc, ◌+◌, ◌≤◌, ◌<◌}
 use native.Mathlib.Omega.{arith}
 use lib.ListN.{length, drop, set, length-append, drop_of_length-le}
 use Rattle.printing.specs.Writes.{Writes}
-use Rattle.printing.proofs.Stores.{writes_more, writes_length, writes_one, writes_none}
+use Rattle.printing.proofs.Stores.{writes_more, writes_length, writes_one}
 use Rattle.text.specs.declared.pieces.Part.{Part}
 use Rattle.text.specs.Pieces.{numbers, value}
 use Rattle.text.specs.Meaning.{low}
@@ -25,9 +25,6 @@ pub record Noted (l : List ℕ) (from i at : ℕ) (before : List ℕ) (end : ℕ
   pub done : List ℕ
   pub writes : Writes at (map low done) before end out
   pub splits : numbers (drop from l) ≡ done ++ numbers (drop i l)
-
-pub noted_none : (l : List ℕ) (from at : ℕ) (before : List ℕ) → at ≤ length before → Noted l from from at before at before
-noted_none l from at before h = record { done = []; writes = writes_none at before h; splits = refl }
 
 module _ (l : List ℕ) (from i at : ℕ) (before : List ℕ) (end : ℕ) (out : List ℕ) (g : Noted l from i at before end out) where
   pub noted_all : numbers (drop i l) ≡ [] → Writes at (map low (numbers (drop from l))) before end out

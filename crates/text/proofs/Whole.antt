@@ -1,12 +1,12 @@
 -- The whole text, line by line: how long a schedule of a shelf is, and what was written so far.
 use mathlib.Core.Path.{◌≡◌, refl, sym, ap, subst, ◌∙◌}
-use mathlib.Core.Bool.{Bool, true, false}
-use mathlib.Core.List.{List, [], ◌∷◌, ◌++◌, map, append-nil, append_assoc}
-use Prim.Native.Nat.{ℕ, zero, suc, ◌+◌, ◌-◌, ◌≤◌, ◌<◌}
+use mathlib.Core.Bool.{true, false}
+use mathlib.Core.List.{List, [], ◌∷◌, ◌++◌}
+use Prim.Native.Nat.{ℕ, suc, ◌+◌, ◌-◌, ◌≤◌, ◌<◌}
 use native.Mathlib.Nat.{zero-add}
 use native.Mathlib.Omega.{arith}
-use lib.ListN.{length, take, drop, length-append, length-drop, drop_of_length-le}
-use lib.Seq.{take_at, length-take-le}
+use lib.ListN.{length, take, drop, length-append, drop_of_length-le}
+use lib.Seq.{take_at}
 use Rattle.book.proofs.Choice.{lt→true, ge→false}
 use Rattle.printing.specs.Writes.{Writes}
 use Rattle.printing.proofs.Stores.{writes_more, writes_length, front}
@@ -68,9 +68,6 @@ pub record Going (t before : List ℕ) (at number end : ℕ) (out : List ℕ) : 
   pub writes : Writes 0 done before end out
   pub same : going number done (lines (drop at t)) ≡ going 1 [] (lines t)
 
-pub going_start : (t before : List ℕ) → Going t before 0 1 0 before
-going_start t before = record { done = []; writes = record { room = omega arith; answer = refl; bytes = refl }; same = refl }
-
 going_refuses : (n : ℕ) (done x : List ℕ) (ls : List (List ℕ)) (b : List ℕ) → b ≡ bare x → is_refused (item b) ≡ true
     → going n done (x ∷ ls) ≡ refused n (wanted_of (item b))
 unfolding going
@@ -94,11 +91,6 @@ module _ (t : List ℕ) (at : ℕ) (p : Part) (l : LineAt t at p) where
   -- the line as it is lent
   abbrev pub piece : List ℕ
   piece = take (p.from - at) (drop at t)
-
-  pub piece_short : length piece ≤ length t
-  piece_short =
-      let d = length-drop at t in let o = l.order in let e = l.end in
-      let k = length-take-le (p.from - at) (drop at t) (omega arith) in omega arith
 
   pub section_named : is_named (item piece) ≡ true → section (lines (drop at t)) ≡ 0
   section_named e = ap section l.splits ∙ section_name l.raw (lines (drop p.to t)) piece l.is e

@@ -1,5 +1,5 @@
 -- Texts, and what they mean. proofs/Cases.antt computes them.
-use Rattle.std.specs.Prelude.{◌≡◌, List, [], ◌∷◌, map, ℕ}
+use Rattle.std.specs.Prelude.{◌≡◌, List, [], ◌∷◌, map}
 use Prim.Native.String.{String}
 use Rattle.words.specs.Words.{letters}
 use Rattle.text.specs.declared.items.Wanted.TheVariants.{Size, Put, Get, Look, Claim, Step, Bytes, Times, Name, Line}

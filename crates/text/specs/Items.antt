@@ -1,11 +1,11 @@
 -- What a line asks for. The first word says which form the line has: a step with its code, and how many numbers follow.
-use Rattle.std.specs.Prelude.{Bool, true, false, ◌&&◌, List, [], ◌∷◌, ℕ, zero, suc, ◌+◌, length, get_or, if◌then◌else◌}
+use Rattle.std.specs.Prelude.{Bool, true, false, ◌&&◌, List, [], ◌∷◌, ℕ, ◌+◌, length, get_or, if◌then◌else◌}
 use Rattle.words.specs.Words.{letters}
 use Rattle.book.specs.Choice.{◌<ᵇ◌, ◌≤ᵇ◌, ◌≡ᵇ◌}
 use Rattle.text.specs.declared.items.Kind.{Kind}
 use Rattle.text.specs.declared.items.Kind.TheVariants.{IsStep, IsSize, IsBytes, IsTimes, IsName, Unknown}
 use Rattle.text.specs.declared.items.Wanted.{Wanted}
-use Rattle.text.specs.declared.items.Wanted.TheVariants.{Size, Put, Get, Order, Look, Claim, Fetch, Finish, Step, Bytes, Times, Name, Line, Room, Text}
+use Rattle.text.specs.declared.items.Wanted.TheVariants.{Size, Put, Get, Order, Look, Claim, Fetch, Finish, Step, Bytes, Times, Name, Line}
 use Rattle.text.specs.declared.items.Form.{Form}
 use Rattle.text.specs.declared.items.Args.{Args}
 use Rattle.text.specs.declared.items.Item.{Item}

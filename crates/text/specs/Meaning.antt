@@ -1,5 +1,5 @@
 -- What a text means: the bytes of its lines, one behind the other, or the first line that is refused and what was wanted there.
-use Rattle.std.specs.Prelude.{Bool, true, false, List, [], ◌∷◌, ◌++◌, map, ℕ, zero, suc, ◌+◌, ◌/◌, ◌%◌, length, drop, if◌then◌else◌}
+use Rattle.std.specs.Prelude.{List, [], ◌∷◌, ◌++◌, map, ℕ, zero, suc, ◌+◌, ◌/◌, ◌%◌, length, drop, if◌then◌else◌}
 use Rattle.book.specs.Choice.{◌<ᵇ◌}
 use Rattle.text.specs.declared.items.Wanted.{Wanted}
 use Rattle.text.specs.declared.items.Wanted.TheVariants.{Room, Text}

@@ -1,5 +1,5 @@
 -- What the functions behind `bytes_of` promise: where a word stands, where a line ends, and the numbers that were read.
-use Rattle.std.specs.Prelude.{◌≡◌, Bool, List, [], ◌∷◌, ◌++◌, ℕ, suc, ◌+◌, ◌-◌, ◌≤◌, ◌<◌, length, take, drop, if◌then◌else◌}
+use Rattle.std.specs.Prelude.{◌≡◌, Bool, List, ◌∷◌, ℕ, ◌+◌, ◌-◌, ◌≤◌, ◌<◌, length, take, drop, if◌then◌else◌}
 use Rattle.text.specs.declared.pieces.Stop.{Stop}
 use Rattle.text.specs.declared.pieces.Stop.TheVariants.{Blank, Letter, InLine}
 use Rattle.text.specs.declared.pieces.Part.{Part}

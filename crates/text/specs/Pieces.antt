@@ -1,5 +1,5 @@
 -- The pieces of a text: its lines, the words of a line, and the number that a word says.
-use Rattle.std.specs.Prelude.{Bool, true, false, not, ◌&&◌, ◌||◌, List, [], ◌∷◌, ◌++◌, map, ℕ, zero, suc, ◌+◌, ◌-◌, length, get_or, take, drop, if◌then◌else◌}
+use Rattle.std.specs.Prelude.{Bool, true, false, not, ◌&&◌, ◌||◌, List, [], ◌∷◌, map, ℕ, zero, suc, ◌-◌, length, get_or, take, drop, if◌then◌else◌}
 use Rattle.book.specs.Choice.{◌≤ᵇ◌, ◌≡ᵇ◌}
 use Rattle.book.specs.Total.{all}
 use Rattle.printing.specs.Decimal.{read_from, is_digit}

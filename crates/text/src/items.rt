@@ -116,6 +116,7 @@ fn other_form(kind: Kind, wanted: Wanted) -> Form
 }
 
 // The form that a first word has.
+#[tactic(auto, unfolding(crate::specs::Items::form_of))]
 fn form_of(word: &[u8]) -> Form
     ensures { result ≡ form_of word.now }
 {
@@ -147,6 +148,7 @@ fn form_of(word: &[u8]) -> Form
 }
 
 // The form of a first word that names no step.
+#[tactic(auto, unfolding(crate::specs::Items::other_form_of))]
 fn other_form_of(word: &[u8]) -> Form
     ensures { result ≡ other_form_of word.now }
 {
@@ -217,6 +219,7 @@ pub fn args_from(line: &[u8], at: usize) -> Args
     r
 }
 
+#[tactic(auto, unfolding(crate::specs::Items::step_item))]
 fn step_item(f: Form, r: Args, times: u32) -> Item
     ensures { result ≡ step_item f r times }
 {
@@ -246,6 +249,7 @@ fn step_item(f: Form, r: Args, times: u32) -> Item
     Item::Refused(wanted)
 }
 
+#[tactic(auto, unfolding(crate::specs::Items::size_item))]
 fn size_item(r: Args) -> Item
     ensures { result ≡ size_item r }
 {
@@ -259,6 +263,7 @@ fn size_item(r: Args) -> Item
     Item::Refused(Wanted::Size)
 }
 
+#[tactic(auto, unfolding(crate::specs::Items::bytes_item))]
 fn bytes_item(r: Args) -> Item
     ensures { result ≡ bytes_item r }
 {
@@ -269,6 +274,7 @@ fn bytes_item(r: Args) -> Item
 }
 
 // The step that stands behind `times` and its number.
+#[tactic(auto, unfolding(crate::specs::Items::times_item))]
 fn times_item(line: &[u8], at: usize) -> Item
     requires { (at ≤ length line.now) × (length line.now ≤ 262144) }
     ensures { result ≡ times_item (drop at line.now) }
@@ -331,6 +337,7 @@ fn item_by(line: &[u8], to: usize, f: Form) -> Item
 }
 
 // What a line asks for.
+#[tactic(auto, unfolding(crate::specs::Items::item))]
 pub fn item_of(line: &[u8]) -> Item
     requires { length line.now ≤ 262144 }
     ensures { result ≡ item line.now }

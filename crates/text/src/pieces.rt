@@ -30,6 +30,7 @@ fn passes_by(stop: Stop, b: u8) -> bool
 }
 
 // How many bytes at the front are of that kind.
+#[tactic(auto, using(crate::proofs::Runs::span_more, crate::proofs::Runs::span_stop, crate::proofs::Runs::span_end))]
 pub fn span_of(s: &[u8], stop: Stop) -> usize
     ensures { (result ≡ span (passes stop) s.now) × (result ≤ length s.now) }
 {
@@ -54,6 +55,7 @@ pub fn word_at(line: &[u8], at: usize) -> Part
     Part { from, to }
 }
 
+#[tactic(auto, using(crate::proofs::Runs::same_short, crate::proofs::Runs::same_end, crate::proofs::Runs::same_not, crate::proofs::Runs::same_more))]
 pub fn same_bytes(word: &[u8], key: &[u8]) -> bool
     ensures { result ≡ same word.now key.now }
 {
@@ -111,6 +113,7 @@ pub fn number_of(word: &[u8]) -> u64
 }
 
 // A line's length without a carriage return at its end.
+#[tactic(auto, using(crate::proofs::FirstLine::bare_none), unfolding(crate::specs::Pieces::bare_length))]
 fn bare_length(line: &[u8]) -> usize
     ensures { (result ≡ bare_length line.now) × (result ≤ length line.now) }
 {

@@ -132,6 +132,7 @@ pub fn size_of(line: &[u8], i: Item) -> usize
 }
 
 // The bytes of an item; k is the length of the schedule that a name starts.
+#[tactic(auto, using(crate::proofs::Bytes::repeat_long, printing::proofs::Stores::writes_none), unfolding(crate::specs::Meaning::said))]
 pub fn write_item(line: &[u8], k: usize, i: Item, out: &mut [u8], at: usize) -> usize
     requires { at + length (said line.now k i) ≤ length out.old }
     ensures { Writes at (said line.now k i) out.old result out.new }

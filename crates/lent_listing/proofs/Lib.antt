@@ -1,5 +1,0 @@
-mod Calling
-mod Calls
-mod LendingLocals
-mod Passing
-mod Results
