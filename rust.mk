@@ -26,7 +26,7 @@ lib:
 # The library where `cargo build` finds it, after the gate; it is proved by then.
 keep-lib:
 	@mkdir -p target
-	@$(MAKE) --no-print-directory lib >target/keep-lib.log 2>&1 || { cat target/keep-lib.log; exit 1; }
+	@$(MAKE) --no-print-directory lib >target/keep-lib.log 2>&1 || { cat target/keep-lib.log >&2; exit 1; }
 	@echo "the library is target/staticlib/liblbq.a, for x86-64"
 
 # The same proved module by the toolchain's other compiler into target/native: for comparing.
