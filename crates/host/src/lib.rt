@@ -1,7 +1,6 @@
 #![tactic(auto)]
 
 // Standard input as the programs of the house take it: into a room that they give, no more than that holds.
-ghost use Rattle.std.specs.Prelude.{IfOk};
 ghost use Rattle.std.specs.Io.{ReadsAtMost};
 
 use std::io;
