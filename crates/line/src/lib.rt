@@ -1,7 +1,7 @@
 #![tactic(auto)]
 
-// The line: its records, and what each call means on them. Definitions and theorems; of code the types, and the refusal
-// that a fault is.
+// The line: its records, and what each call means on them. Definitions and theorems; of code the types, a head's size, and
+// the refusal that a fault is.
 //
 // The records are numbers only, so that a portal lends its own memory. specs/Line.antt has the
 // steps, specs/Rules.antt the rules of a sound line in the paper's words, specs/Check.antt the check,
@@ -9,8 +9,10 @@
 // Beyond the demands, specs/FirstOut.antt says in which order labels come out, and specs/Clearing.antt
 // that nothing is ever stuck.
 ghost use Rattle.std.specs.Prelude.{◌≡◌};
+ghost use Rattle.line.specs.Line.{size_of};
 ghost use Rattle.line.specs.Check.{refusal_of};
 
+use book::Size;
 use words::{Answer, Refusal};
 
 // A desk: stage 0 is idle, 1 looked, 2 claimed, 3 fetched. An idle desk's turn and place are not read. The stage is a
@@ -42,6 +44,19 @@ pub struct Head {
     pub p: u32,
     pub k: u32,
     pub desks: [Desk; 16],
+}
+
+impl Head {
+    // The three numbers that a line is opened with.
+    pub fn size(&self) -> Size
+        ensures { result ≡ size_of self.now }
+    {
+        Size {
+            nb: self.nb,
+            ne: self.ne,
+            t: self.t,
+        }
+    }
 }
 
 // Where a label goes: turn, block and place; and the record that the block has after it.
