@@ -48,14 +48,8 @@ pub fn number(a: Answer) -> u32
     ensures { Numbered a result }
 {
     match a {
-        Answer::Put(_) => 0,
-        Answer::Got(_) => 0,
-        Answer::Took(_) => 0,
-        Answer::Whole(_) => 0,
-        Answer::Seen(_) => 0,
-        Answer::Claimed(_) => 0,
-        Answer::Done => 0,
         Answer::Refused(w, _) => refusal_number(w),
+        _ => 0,
     }
 }
 
