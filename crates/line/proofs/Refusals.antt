@@ -2,12 +2,9 @@
 -- A deed is followed test by test: `Says e` says of an outcome that a refusal has the value 0 and that its sentence of
 -- specs/Refusals.antt holds. The other way round, a sentence settles each test of its deed, and so the answer (`when_refused`).
 -- What a refusal leaves is found by following the deeds again; that needs no sound line.
-use mathlib.Core.Path.{◌≡◌, refl, subst}
-use mathlib.Core.Logic.{◌≢◌, ◌↔◌, ◌⊎◌, inl, inr, ⊎_elim}
-use mathlib.Core.Bool.{Bool, true, false, not, ◌&&◌}
-use Prim.Native.Nat.{ℕ, ◌+◌, ◌-◌, ◌≤◌, ◌<◌}
-use native.Mathlib.Nat.{mod-le, le_trans}
-use lib.Dec.{T, T_not, not_T, ltb→lt, nltb→le, leb→le, nleb→lt, eqb→eq}
+use Rattle.std.proofs.Common.{◌≡◌, ℕ, ◌+◌, ◌-◌, ◌<◌, ◌≤◌, Bool, true, false, not, ◌&&◌, T, ◌≢◌, ◌⊎◌, ◌↔◌, refl, subst, inl, inr, ⊎_elim, le_trans, eqb→eq, ltb→lt, leb→le, nltb→le, T_not}
+use Rattle.std.proofs.Math.Dec.{not_T, nleb→lt}
+use Rattle.std.proofs.Math.Nat.{mod-le}
 use Rattle.words.specs.declared.Answer.{Answer}
 use Rattle.words.specs.declared.Answer.TheVariants.{Put, Got, Took, Whole, Seen, Claimed, Done, Refused}
 use Rattle.words.specs.declared.Refusal.{Refusal}

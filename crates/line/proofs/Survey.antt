@@ -1,16 +1,8 @@
 -- The survey tells the truth: bit b of its mask is an idle desk's look at block b, its count is the ones of the mask, and
 -- its lowest is the lowest of them, or 64. First the laws of a mask of Booleans: a Boolean in front doubles the mask and puts
 -- its bit in. Then the Booleans of the survey are the looks at the blocks, and past the last block a look is refused too.
-use Rattle.std.specs.Prelude.{Ok, Err}
-use mathlib.Core.Path.{◌≡◌, refl, sym, ap, ◌∙◌}
-use mathlib.Core.Logic.{◌≢◌, ◌↔◌}
-use mathlib.Core.Bool.{Bool, true, false, not, ◌&&◌}
-use mathlib.Core.List.{List, [], ◌∷◌}
-use Prim.Native.Nat.{ℕ, zero, suc, ◌+◌, ◌-◌, ◌*◌, ◌/◌, ◌^◌, ◌≤◌, ◌<◌}
-use native.Mathlib.Nat.{zero-add, add-zero, add-suc, suc-add, sub-zero, mul_comm, pow-suc, zero-div, div-div-eq-div-mul}
-use native.Mathlib.Omega.{arith}
-use lib.Dec.{T, eqb}
-use lib.ListN.{length, get_or}
+use Rattle.std.proofs.Common.{◌≡◌, ℕ, zero, suc, ◌+◌, ◌-◌, ◌*◌, ◌/◌, ◌^◌, ◌<◌, ◌≤◌, Bool, true, false, not, ◌&&◌, T, eqb, ◌≢◌, ◌↔◌, List, [], ◌∷◌, length, get_or, Ok, Err, sym, refl, ap, ◌∙◌, add-zero, add-suc, mul_comm, suc-add, pow-suc, zero-add, arith}
+use Rattle.std.proofs.Math.Nat.{sub-zero, zero-div, div-div-eq-div-mul}
 use Rattle.words.specs.declared.Answer.{Answer}
 use Rattle.words.specs.declared.Answer.TheVariants.{Put, Got, Took, Whole, Seen, Claimed, Done, Refused}
 use Rattle.words.specs.declared.Refusal.{Refusal}
@@ -19,7 +11,7 @@ use Rattle.book.specs.Sizes.{fits}
 use Rattle.book.specs.declared.DeskStep.TheVariants.{Look as look}
 use Rattle.book.specs.declared.Deed.TheVariants.{Desk as desk}
 use Rattle.book.specs.Steps.{Step, idle, decode}
-use Rattle.book.specs.Verdicts.{Verdict, takes, refuses, judge, admitted}
+use Rattle.book.specs.Verdicts.{Verdict, judge, admitted}
 use Rattle.book.proofs.Choice.{by_test, choose_true, choose_false, and_first, le→true, gt→false}
 use Rattle.line.specs.Line.{Line, Spot, Outcome, size_of, desk_at, desk_step, does, size_in}
 use Rattle.line.specs.Rules.{Sound}
