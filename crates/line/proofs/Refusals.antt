@@ -121,8 +121,7 @@ module _ (l : Line) where
   pub put_range : (a : ℕ) → may_put (size_in l) l a ≢ refuses Range
   put_range a e =
       let (b, c, q, _) = (subst (OfRefusal (Sentence (put a))) (put_refused a Range e) (put_told a)).0 in
-      let r : true ≡ false = cc in
-      subst T r tt
+      cc
 
   -- ---- look at block i, with its current turn t
 
