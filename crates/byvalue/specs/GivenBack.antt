@@ -5,9 +5,8 @@ use Rattle.words.specs.declared.Answer.{Answer}
 use Rattle.book.specs.Choice.{◌≤ᵇ◌}
 use Rattle.line.specs.declared.Block.{Block}
 use Rattle.line.specs.declared.Head.{Head}
-use Rattle.line.specs.declared.Opening.{Opening}
 use Rattle.line.specs.Line.{Line, Outcome}
-use Rattle.line.specs.Calls.{Opened}
+use Rattle.line.specs.Calls.{Opening, Opened}
 use Rattle.byvalue.specs.declared.Outcome.{Outcome as OutcomeByValue}
 
 -- the lent records put back in front of the others

@@ -13,11 +13,12 @@ ghost use Rattle.book.specs.Steps.{idle as idle_desk};
 ghost use Rattle.book.specs.Sizes.{sized};
 ghost use Rattle.line.specs.Line.{numbers_of, unused as unused_block, opened};
 
+use book::Size;
 use line::{Block, Desk, Head};
 use words::{Answer, Refusal};
 
 // What a call gives: the answer, the head and the table.
-#[derive(Clone, Copy)]
+#[derive(Clone, Copy, Debug, PartialEq, Eq)]
 pub struct Outcome<A> {
     pub answer: A,
     pub head: Head,
@@ -61,13 +62,13 @@ pub fn unused() -> Block
 
 // The head of a line that is opened: zeros but for its numbers, all sixteen desks idle.
 #[tactic(auto, unfolding(line::specs::Line::opened))]
-pub fn fresh(nb: u16, ne: u16, t: u16) -> Head
-    ensures { result ≡ (opened (sized nb ne t)).head }
+pub fn fresh(z: Size) -> Head
+    ensures { result ≡ (opened z).head }
 {
     Head {
-        nb,
-        ne,
-        t,
+        nb: z.nb,
+        ne: z.ne,
+        t: z.t,
         reading: 0,
         p: 0,
         k: 0,
@@ -79,7 +80,7 @@ pub fn fresh(nb: u16, ne: u16, t: u16) -> Head
 pub fn no_head() -> Head
     ensures { result ≡ (opened (sized 0 0 0)).head }
 {
-    fresh(0, 0, 0)
+    fresh(Size { nb: 0, ne: 0, t: 0 })
 }
 
 pub fn no_table() -> [Block; 64]
