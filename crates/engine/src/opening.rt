@@ -1,19 +1,11 @@
 // Opening a line in the records and entries that are lent.
-ghost use Rattle.std.specs.Prelude.{◌≡◌, length, replicate};
+ghost use Rattle.std.specs.Prelude.{◌≡◌};
 ghost use Rattle.book.specs.Sizes.{sized};
 ghost use Rattle.engine.specs.Promises.{GivesOpening};
 
 use byvalue::{OpeningOutcome, fresh, unused};
 use line::{Block, Head, Opening};
 use rules::fits;
-
-fn clear(entries: &mut [u32])
-    ensures { entries.new ≡ replicate (length entries.old) 0 }
-{
-    for i in 0..entries.len() {
-        entries[i] = 0;
-    }
-}
 
 // Where numbers and lengths fit, the lent records are unused and the entries 0; else everything is as it was.
 pub fn open(
@@ -29,12 +21,9 @@ pub fn open(
 {
     let head = fresh(nb, ne, t);
     if fits(nb, ne, t, n, entries.len()) {
-        clear(entries);
-        let block = unused();
+        entries.fill(0);
         let mut records = table;
-        for i in 0..n {
-            records[i] = block;
-        }
+        records[..n].fill(unused());
         return OpeningOutcome {
             answer: Opening::Open,
             head,

@@ -45,18 +45,15 @@ pub fn survey(h: Head, table: [Block; 64], n: usize, m: usize) -> Findings
             let nb = h.nb as u32;
             let p = h.p;
             let k = h.k;
-            let mut mask: u64 = 0;
-            let mut i = nb;
-            while 0 < i {
-                i = i - 1;
-                let at = i as usize;
-                mask = 2 * mask + bit(nb, p, k, i, table[at]);
+            let mut mask = 0u64;
+            for (i, c) in table[..n].iter().enumerate() {
+                mask |= bit(nb, p, k, i as u32, *c) << i;
             }
             Findings {
                 answer: Surveyed::Survey,
                 mask,
-                count: u64::count_ones(mask),
-                lowest: u64::trailing_zeros(mask),
+                count: mask.count_ones(),
+                lowest: mask.trailing_zeros(),
             }
         }
     }
