@@ -3,15 +3,8 @@
 -- A win leaves at most T - 1 looks dead, a move of K at most T, and no other step makes a look dead. So for each step
 --   lost + dead + T × K(before) ≤ dead(before) + (T - 1) × won + T × K,
 -- and by adding up for each run, with K ≤ P and exactly T desks throughout.
-use Rattle.std.specs.Prelude.{if◌then◌else◌}
-use mathlib.Core.Path.{◌≡◌, refl, ap, ◌∙◌}
-use mathlib.Core.Bool.{not}
-use mathlib.Core.List.{List, [], ◌∷◌}
-use Prim.Native.Nat.{ℕ, zero, suc, ◌+◌, ◌-◌, ◌*◌, ◌/◌, ◌≤◌, ◌<◌, zero-le}
-use native.Mathlib.Nat.{mul-le-mul_left, le_trans}
-use native.Mathlib.Omega.{arith}
-use lib.Dec.{T, ltb→lt, nltb→le}
-use lib.ListN.{length, set, length-replicate, length-set, length-append}
+use Rattle.std.proofs.Common.{◌≡◌, ℕ, zero, suc, ◌+◌, ◌-◌, ◌*◌, ◌/◌, ◌<◌, ◌≤◌, not, T, List, [], ◌∷◌, length, set, if◌then◌else◌, refl, ap, ◌∙◌, zero-le, le_trans, mul-le-mul_left, arith, ltb→lt, nltb→le, length-append, length-set}
+use Rattle.std.proofs.Math.ListN.{length-replicate}
 use Rattle.words.specs.declared.Answer.TheVariants.{Refused}
 use Rattle.book.specs.Choice.{◌<ᵇ◌, ◌≤ᵇ◌}
 use Rattle.book.specs.Total.{total}

@@ -1,7 +1,5 @@
 -- The cases, computed. A group's proof has a place for each of its cases, in their order.
-use mathlib.Core.Path.{◌≡◌, refl, ap, ap₂, ◌∙◌}
-use mathlib.Core.List.{List, [], ◌∷◌, ◌++◌}
-use native.Mathlib.Omega.{arith}
+use Rattle.std.proofs.Common.{◌≡◌, List, [], ◌∷◌, ◌++◌, refl, ap, ◌∙◌, ap₂, arith}
 use Rattle.words.specs.declared.Refusal.TheVariants.{Worn}
 use Rattle.book.specs.Sizes.{sized, fits, is_label, is_order, current_turn, is_owned}
 use Rattle.book.specs.Steps.{decode}

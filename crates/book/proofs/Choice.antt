@@ -1,10 +1,6 @@
 -- Laws of a choice by a test: to prove something of it, of two of them side by side, and to put a known test in.
-use mathlib.Core.Path.{◌≡◌, refl, sym, subst}
-use mathlib.Core.Logic.{◌≢◌}
-use mathlib.Core.Bool.{Bool, true, false, cond, not, ◌&&◌}
-use Prim.Native.Nat.{ℕ, ◌≤◌, ◌<◌}
-use native.Mathlib.Omega.{arith}
-use lib.Dec.{T, T_not, ltb, leb, eqb, ltb→lt, lt→ltb, nltb→le, leb→le, le→leb, eqb→eq, eqb_refl}
+use Rattle.std.proofs.Common.{◌≡◌, ℕ, ◌<◌, ◌≤◌, Bool, true, false, cond, not, ◌&&◌, T, eqb, ltb, leb, ◌≢◌, Ok, Err, sym, refl, subst, arith, le→leb, eqb→eq, ltb→lt, lt→ltb, leb→le, nltb→le, T_not}
+use Rattle.std.proofs.Math.Dec.{eqb_refl}
 use Rattle.words.specs.declared.Refusal.{Refusal}
 use Rattle.book.specs.Verdicts.{Verdict, takes, refuses, judge}
 
@@ -43,8 +39,8 @@ choose_same false x = refl
 -- ---- by a verdict
 
 pub by_verdict : {A : Type 0} (P : A → Type 0) (v : Verdict) {x : A} {f : Refusal → A} → (v ≡ takes → P x) → ((w : Refusal) → v ≡ refuses w → P (f w)) → P (judge v x f)
-by_verdict P takes g h = g refl
-by_verdict P (refuses w) g h = h w refl
+by_verdict P (Ok tt) g h = g refl
+by_verdict P (Err w) g h = h w refl
 
 -- ---- a test that is known
 

@@ -1,12 +1,7 @@
 -- A desk's step is one of six: SEEN, CLAIMED, LOST, TOOK, DONE, or a refusal that changes nothing. What holds of each of
 -- them holds of every step of a desk. And what one desk's change leaves of the others.
-use mathlib.Core.Path.{◌≡◌, refl}
-use mathlib.Core.Bool.{Bool, not, ◌&&◌}
-use mathlib.Core.List.{List, [], ◌∷◌}
-use Prim.Native.Nat.{ℕ, zero, suc, ◌%◌, ◌<◌}
-use native.Mathlib.Omega.{arith}
-use lib.Dec.{T, nleb→lt}
-use lib.ListN.{get_or, set}
+use Rattle.std.proofs.Common.{◌≡◌, ℕ, zero, suc, ◌%◌, ◌<◌, Bool, not, ◌&&◌, T, List, [], ◌∷◌, get_or, set, refl, arith}
+use Rattle.std.proofs.Math.Dec.{nleb→lt}
 use Rattle.words.specs.declared.Answer.TheVariants.{Took, Seen, Claimed, Done, Refused}
 use Rattle.words.specs.declared.Refusal.{Refusal}
 use Rattle.words.specs.declared.Refusal.TheVariants.{Owned, Nothing, Lost}

@@ -2,15 +2,9 @@
 -- A get takes the first waiting row of a turn, and K moves on only from a turn in which none waits. A look sees the first waiting row
 -- of a turn, and a claim is won only while that row waits: then all rows before it in its turn are gone still.
 -- With it: K ≤ P, P - K ≤ NB - 1, and the round of turn P is below 65,536.
-use mathlib.Core.Path.{◌≡◌, refl, sym, ap, ◌∙◌}
-use mathlib.Core.Logic.{◌⊎◌, inl, inr, ⊎_elim}
-use mathlib.Core.Bool.{true, false, not}
-use mathlib.Core.List.{List, [], ◌∷◌}
-use Prim.Native.Nat.{ℕ, zero, suc, ◌+◌, ◌-◌, ◌*◌, ◌/◌, ◌%◌, ◌≤◌, ◌<◌, zero-le}
-use native.Mathlib.Nat.{div-zero, zero-div, div-add-mod', mod-lt, div-mul-le_self, mul-le-mul_right, not-suc-le-zero, le_of_suc-le-suc, div-lt_iff_lt-mul, lt-div-mul-add, le_trans}
-use native.Mathlib.Omega.{arith}
-use lib.Dec.{T, T_not, ltb, eqb, ltb→lt, nltb→le, eqb→eq, nleb→lt}
-use lib.ListN.{length, set, length-append}
+use Rattle.std.proofs.Common.{◌≡◌, ℕ, zero, suc, ◌+◌, ◌-◌, ◌*◌, ◌/◌, ◌%◌, ◌<◌, ◌≤◌, true, false, not, T, eqb, ltb, ◌⊎◌, List, [], ◌∷◌, length, set, sym, refl, ap, ◌∙◌, inl, inr, ⊎_elim, zero-le, le_trans, le_of_suc-le-suc, not-suc-le-zero, mul-le-mul_right, mod-lt, div-lt_iff_lt-mul, div-add-mod', div-mul-le_self, arith, eqb→eq, ltb→lt, nltb→le, T_not, length-append}
+use Rattle.std.proofs.Math.Dec.{nleb→lt}
+use Rattle.std.proofs.Math.Nat.{div-zero, zero-div, lt-div-mul-add}
 use Rattle.words.specs.declared.Refusal.{Refusal}
 use Rattle.book.specs.Choice.{◌<ᵇ◌, ◌≤ᵇ◌}
 use Rattle.book.specs.Sizes.{Size, is_label, is_order, round_of}

@@ -1,14 +1,9 @@
 -- Labels in order. The rows of the book are the labels placed, in order; and the labels that gets hand over are those of the rows got,
 -- which are in order (proofs/Order.antt): so they are the labels placed with others left out.
-use Rattle.std.specs.Prelude.{if◌then◌else◌}
-use mathlib.Core.Path.{◌≡◌, refl, sym, ap, ap₂, ◌∙◌}
-use mathlib.Core.Bool.{false}
-use mathlib.Core.List.{List, [], ◌∷◌, ◌++◌, map, map-append, append-nil, append_assoc}
-use Prim.Native.Nat.{ℕ, zero, suc, ◌+◌, ◌-◌, ◌<◌, zero-le}
-use native.Mathlib.Omega.{arith}
-use lib.Dec.{ltb, ltb→lt, nltb→le}
-use lib.ListN.{length, get_or, length-map, get_or-map, get_or-eq_default}
-use lib.Seq.{map-set_same}
+use Rattle.std.proofs.Common.{◌≡◌, ℕ, zero, suc, ◌+◌, ◌-◌, ◌<◌, false, ltb, List, [], ◌∷◌, ◌++◌, map, length, get_or, if◌then◌else◌, sym, refl, ap, ◌∙◌, ap₂, append_assoc, append-nil, zero-le, arith, ltb→lt, nltb→le}
+use Rattle.std.proofs.Math.ListN.{length-map, get_or-map, get_or-eq_default}
+use Rattle.std.proofs.Math.Seq.{map-set_same}
+use Rattle.std.proofs.lemmas.List.{map-append}
 use Rattle.book.specs.Choice.{◌≡ᵇ◌}
 use Rattle.book.specs.Sizes.{Size, within, is_order}
 use Rattle.book.specs.Steps.{Step, Deed, put, get, order, desk, unlisted, decode}

@@ -1,13 +1,7 @@
 -- Order is kept. In a turn the rows gone are its first (proofs/Fronts.antt), so a row that waits stands after all that are gone.
 -- A row that goes later waits now: so within one turn it is larger. And what a get hands over later is of this turn K or of a later one:
 -- so it is larger too.
-use mathlib.Core.Path.{◌≡◌, sym, ◌∙◌}
-use mathlib.Core.Bool.{Bool, false, not, ◌&&◌}
-use mathlib.Core.List.{List, [], ◌∷◌, ◌++◌}
-use Prim.Native.Nat.{ℕ, suc, ◌/◌, ◌≤◌, ◌<◌, zero-le}
-use native.Mathlib.Omega.{arith}
-use lib.Dec.{T, ltb, eqb, ltb→lt, nltb→le, eqb→eq}
-use lib.ListN.{length}
+use Rattle.std.proofs.Common.{◌≡◌, ℕ, suc, ◌/◌, ◌<◌, ◌≤◌, Bool, false, not, ◌&&◌, T, eqb, ltb, List, [], ◌∷◌, ◌++◌, length, sym, ◌∙◌, zero-le, arith, eqb→eq, ltb→lt, nltb→le}
 use Rattle.book.specs.Choice.{◌≡ᵇ◌}
 use Rattle.book.specs.Sizes.{Size}
 use Rattle.book.specs.Steps.{Step, decode}

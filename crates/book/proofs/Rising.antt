@@ -1,14 +1,8 @@
 -- Laws of lists that rise: each number larger than the one before it.
-use mathlib.Core.Path.{◌≡◌, refl, ap}
-use mathlib.Core.Bool.{Bool}
+use Rattle.std.proofs.Common.{◌≡◌, ℕ, zero, suc, ◌+◌, ◌<◌, ◌≤◌, Bool, T, List, [], ◌∷◌, ◌++◌, map, length, get_or, take, drop, refl, ap, le_trans, le_of_suc-le-suc, arith, drop-cons}
+use Rattle.std.proofs.Math.Seq.{drop-nil}
+use mathlib.Core.List.{Sublistᴰ}
 use mathlib.Core.List.Sublistᴰ
-use mathlib.Core.List.{List, [], ◌∷◌, ◌++◌, map, Sublistᴰ}
-use Prim.Native.Nat.{ℕ, zero, suc, ◌+◌, ◌≤◌, ◌<◌}
-use native.Mathlib.Nat.{le_of_suc-le-suc, le_trans}
-use native.Mathlib.Omega.{arith}
-use lib.Dec.{T}
-use lib.ListN.{length, get_or, take, drop}
-use lib.Seq.{drop-cons, drop-nil}
 use Rattle.book.specs.Total.{up_from}
 use Rattle.book.specs.Order.{Increasing, filter}
 use Rattle.book.proofs.Choice.{by_test, cases, choose_true, choose_false}

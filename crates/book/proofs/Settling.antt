@@ -1,14 +1,7 @@
 -- The desks in turn fetch what they have claimed and finish what they have fetched: then no desk holds a row, and rows and K are as
 -- they were. The desks below d have done so, and those from d on are the list that is left.
-use mathlib.Core.Path.{◌≡◌, refl, sym, ap, ◌∙◌}
-use mathlib.Core.Bool.{not}
-use mathlib.Core.List.{List, [], ◌∷◌, ◌++◌, map}
-use Prim.Native.Nat.{ℕ, zero, suc, ◌+◌, ◌*◌, ◌≤◌, ◌<◌}
-use native.Mathlib.Nat.{not-suc-le-zero, le_of_suc-le-suc}
-use native.Mathlib.Omega.{arith}
-use lib.Dec.{T, ltb, eqb, ltb→lt, nltb→le, eqb→eq}
-use lib.ListN.{length, get_or, length-set, get_or-eq_default}
-use lib.Seq.{get_or-set_same, get_or-set_other}
+use Rattle.std.proofs.Common.{◌≡◌, ℕ, zero, suc, ◌+◌, ◌*◌, ◌<◌, ◌≤◌, not, T, eqb, ltb, List, [], ◌∷◌, ◌++◌, map, length, get_or, sym, refl, ap, ◌∙◌, le_of_suc-le-suc, not-suc-le-zero, arith, eqb→eq, ltb→lt, nltb→le, length-set, get_or-set_other, get_or-set_same}
+use Rattle.std.proofs.Math.ListN.{get_or-eq_default}
 use Rattle.book.specs.Total.{up_from}
 use Rattle.book.specs.Sizes.{Size}
 use Rattle.book.specs.Steps.{fetch, finish, Deed, desk, unlisted, decode, Hold, Desk, idle, looked, holding, with_fetched, is_fetched}

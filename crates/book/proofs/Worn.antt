@@ -1,12 +1,7 @@
 -- Put and get by turns, NB 2 and NE 1: n times lead from opening to the book `by_turns n`, every put being placed while n is below
 -- 131,072. Row n is then the one row of turn n: the put starts turn n, and the get moves K on to it.
-use mathlib.Core.Path.{◌≡◌, refl, ap, ◌∙◌}
-use mathlib.Core.Bool.{true, false}
-use mathlib.Core.List.{List, [], ◌∷◌, ◌++◌}
-use Prim.Native.Nat.{ℕ, zero, suc, ◌+◌, ◌-◌, ◌*◌, ◌≤◌, ◌<◌}
-use native.Mathlib.Nat.{div-one, div-lt_iff_lt-mul}
-use native.Mathlib.Omega.{arith}
-use lib.ListN.{length, drop, replicate, length-replicate, length-append}
+use Rattle.std.proofs.Common.{◌≡◌, ℕ, zero, suc, ◌+◌, ◌-◌, ◌*◌, ◌<◌, ◌≤◌, true, false, List, [], ◌∷◌, ◌++◌, length, drop, replicate, refl, ap, ◌∙◌, div-lt_iff_lt-mul, div-one, arith, length-append}
+use Rattle.std.proofs.Math.ListN.{length-replicate}
 use Rattle.words.specs.declared.Answer.{Answer}
 use Rattle.words.specs.declared.Answer.TheVariants.{Put, Got}
 use Rattle.book.specs.Choice.{◌<ᵇ◌}

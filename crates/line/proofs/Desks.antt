@@ -2,14 +2,9 @@
 -- So as many desks hold a row of a turn as hold a spot of it, and BUSY is the same on both sides, by rule 7. A desk that
 -- is written is written in both; with it records and rows may change, where written and the labels stand, and claimed
 -- does not fall.
-use Rattle.std.specs.Prelude.{if◌then◌else◌}
-use mathlib.Core.Path.{◌≡◌, refl, sym, ap, ◌∙◌, subst}
-use mathlib.Core.List.{List, [], ◌∷◌, map}
-use Prim.Native.Nat.{ℕ, zero, suc, ◌≤◌, ◌<◌}
-use native.Mathlib.Omega.{arith}
-use lib.Dec.{ltb, ltb→lt, lt→ltb, nltb→le}
-use lib.ListN.{length, get_or, set, take, length-take, get_or-map, get_or-eq_default}
-use lib.Seq.{get_or-take, take-set-lt}
+use Rattle.std.proofs.Common.{◌≡◌, ℕ, zero, suc, ◌<◌, ◌≤◌, ltb, List, [], ◌∷◌, map, length, get_or, take, set, if◌then◌else◌, sym, refl, ap, ◌∙◌, subst, arith, ltb→lt, lt→ltb, nltb→le, length-take, get_or-take}
+use Rattle.std.proofs.Math.ListN.{get_or-map, get_or-eq_default}
+use Rattle.std.proofs.Math.Seq.{take-set-lt}
 use Rattle.book.specs.Total.{total}
 use Rattle.book.specs.Steps.{Desk, idle, looked, Hold, holding, hold_of}
 use Rattle.book.specs.Book.{Row, Book, row_at, row_of}

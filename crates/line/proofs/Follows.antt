@@ -1,12 +1,7 @@
 -- The line follows the book: each deed gives the same answer on both, and leaves them agreed; and a line is opened in
 -- agreement with the book. The deeds stand in FollowsPut, FollowsGet and FollowsDesks, and that a step keeps a line
 -- sound in Sound; what the line says of the book's turns, rows, labels and desks is carried on here.
-use mathlib.Core.Path.{◌≡◌, refl, sym, ap, ◌∙◌}
-use mathlib.Core.List.{List, ◌∷◌, map}
-use Prim.Native.Nat.{ℕ, zero, suc, ◌*◌, ◌≤◌}
-use native.Mathlib.Omega.{arith}
-use lib.Dec.{T}
-use lib.ListN.{replicate, take}
+use Rattle.std.proofs.Common.{◌≡◌, ℕ, zero, suc, ◌*◌, ◌≤◌, T, List, ◌∷◌, map, take, replicate, sym, refl, ap, ◌∙◌, arith}
 use Rattle.words.specs.declared.Answer.TheVariants.{Refused}
 use Rattle.words.specs.declared.Refusal.TheVariants.{Badstep}
 use Rattle.book.specs.Sizes.{Size, block_of, fits}

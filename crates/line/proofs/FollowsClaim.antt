@@ -2,16 +2,11 @@
 -- and claimed is still the place seen; the book, whether the row still waits and its turn is above K. The first two are
 -- "above K", and above K the rows gone are those below claimed, which the place seen has never passed. A claim that is
 -- won marks that row, and claimed, which is the front, grows by one.
-use mathlib.Core.Path.{◌≡◌, refl, sym, ap, ◌∙◌}
-use mathlib.Core.Logic.{◌≢◌}
-use mathlib.Core.Bool.{Bool, true, false, not, ◌&&◌, and-true, and-false}
-use mathlib.Core.List.{List}
-use Prim.Native.Nat.{ℕ, suc, ◌≤◌, ◌<◌}
-use native.Mathlib.Nat.{le_refl, mod-le}
-use native.Mathlib.Omega.{arith}
-use lib.Dec.{T, ltb, leb, eqb, ltb→lt, lt→ltb, nltb→le, nleb→lt, eqb→eq, eqb_refl}
-use lib.ListN.{length, set}
-use lib.Arith.{lt→nleb, le→nltb, digits_mod}
+use Rattle.std.proofs.Common.{◌≡◌, ℕ, suc, ◌<◌, ◌≤◌, Bool, true, false, not, ◌&&◌, T, eqb, ltb, leb, ◌≢◌, List, length, set, sym, refl, ap, ◌∙◌, le_refl, arith, eqb→eq, ltb→lt, lt→ltb, nltb→le}
+use Rattle.std.proofs.Math.Arith.{lt→nleb, le→nltb, digits_mod}
+use Rattle.std.proofs.Math.Bool.{and-true, and-false}
+use Rattle.std.proofs.Math.Dec.{nleb→lt, eqb_refl}
+use Rattle.std.proofs.Math.Nat.{mod-le}
 use Rattle.words.specs.declared.Answer.TheVariants.{Claimed}
 use Rattle.book.specs.Sizes.{block_of, current_turn, is_owned}
 use Rattle.book.specs.Steps.{idle, looked, holding, claimed_at}

@@ -1,15 +1,7 @@
 -- The line follows the book: get. Where the line's reach stops, the book's turn is the first from K on in which a row
 -- waits, or P; and the reading place there is the first waiting row's. The turns that were passed had all of their rows
 -- gone, so that no front moves but that of the turn read, and there by the one row that is taken.
-use mathlib.Core.Path.{◌≡◌, refl, sym, ap, ◌∙◌, subst}
-use mathlib.Core.Logic.{◌≢◌}
-use mathlib.Core.Bool.{Bool, not}
-use mathlib.Core.List.{List}
-use Prim.Native.Nat.{ℕ, zero, suc, ◌+◌, ◌-◌, ◌≤◌, ◌<◌}
-use native.Mathlib.Nat.{le_refl}
-use native.Mathlib.Omega.{arith}
-use lib.Dec.{T, ltb, eqb, ltb→lt, nltb→le, eqb→eq}
-use lib.ListN.{length}
+use Rattle.std.proofs.Common.{◌≡◌, ℕ, zero, suc, ◌+◌, ◌-◌, ◌<◌, ◌≤◌, Bool, not, T, eqb, ltb, ◌≢◌, List, length, sym, refl, ap, ◌∙◌, subst, le_refl, arith, eqb→eq, ltb→lt, nltb→le}
 use Rattle.words.specs.declared.Answer.TheVariants.{Got}
 use Rattle.book.specs.Sizes.{Size}
 use Rattle.book.specs.Book.{Row, Book, row_at, row_of, mark_gone, written, first, waits, read_turn}

@@ -2,15 +2,9 @@
 -- K claimed. Here are its laws: what it is by where the turn stands, what a change of the line leaves of it, and how a
 -- mark in the book moves it. With it P, written, first and waits of the book are read off the line's records.
 -- What a line and a book that agree say of one another, but for soundness, is `Matches`; `Follows` is a step of both.
-use mathlib.Core.Path.{◌≡◌, refl, sym, ap, ◌∙◌, subst}
-use mathlib.Core.Logic.{◌≢◌}
-use mathlib.Core.List.{List, map}
-use Prim.Native.Nat.{ℕ, suc, ◌+◌, ◌-◌, ◌*◌, ◌≤◌, ◌<◌}
-use native.Mathlib.Nat.{le_refl, mul-le-mul_right}
-use native.Mathlib.Omega.{arith}
-use lib.Dec.{ltb, leb, eqb, ltb→lt, lt→ltb, leb→le, nleb→lt, eqb→eq}
-use lib.ListN.{length, take}
-use lib.Arith.{digits_div}
+use Rattle.std.proofs.Common.{◌≡◌, ℕ, suc, ◌+◌, ◌-◌, ◌*◌, ◌<◌, ◌≤◌, eqb, ltb, leb, ◌≢◌, List, map, length, take, sym, refl, ap, ◌∙◌, subst, le_refl, mul-le-mul_right, arith, eqb→eq, ltb→lt, lt→ltb, leb→le}
+use Rattle.std.proofs.Math.Arith.{digits_div}
+use Rattle.std.proofs.Math.Dec.{nleb→lt}
 use Rattle.words.specs.declared.Answer.{Answer}
 use Rattle.book.specs.Sizes.{Size}
 use Rattle.book.specs.Steps.{looked}

@@ -2,14 +2,7 @@
 -- as many but for that desk; and rule 3 is kept if the new desk obeys it and takes no spot that another desk holds. The record
 -- of one turn changes: every other turn of the window has the record that it had, so only that one turn is looked at; and where
 -- neither claimed nor written falls, rules 2 and 3 are kept.
-use mathlib.Core.Path.{◌≡◌, refl, ap, ◌∙◌}
-use mathlib.Core.Logic.{◌≢◌}
-use mathlib.Core.List.{List}
-use Prim.Native.Nat.{ℕ, ◌+◌, ◌≤◌, ◌<◌}
-use native.Mathlib.Omega.{arith}
-use lib.Dec.{eqb, eqb→eq}
-use lib.ListN.{length, get_or, set, length-set}
-use lib.Seq.{get_or-set_same, get_or-set_other}
+use Rattle.std.proofs.Common.{◌≡◌, ℕ, ◌+◌, ◌<◌, ◌≤◌, eqb, ◌≢◌, List, length, get_or, set, refl, ap, ◌∙◌, arith, eqb→eq, length-set, get_or-set_other, get_or-set_same}
 use Rattle.book.specs.Sizes.{Size, block_of}
 use Rattle.book.specs.Steps.{Desk, idle, looked, holding, is_fetched}
 use Rattle.book.proofs.Choice.{cases, neq_test, neq→eqb, eqb_same, by_test, T→true, not→false}

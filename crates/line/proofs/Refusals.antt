@@ -2,12 +2,9 @@
 -- A deed is followed test by test: `Says e` says of an outcome that a refusal has the value 0 and that its sentence of
 -- specs/Refusals.antt holds. The other way round, a sentence settles each test of its deed, and so the answer (`when_refused`).
 -- What a refusal leaves is found by following the deeds again; that needs no sound line.
-use mathlib.Core.Path.{◌≡◌, refl, subst}
-use mathlib.Core.Logic.{◌≢◌, ◌↔◌, ◌⊎◌, inl, inr, ⊎_elim}
-use mathlib.Core.Bool.{Bool, true, false, not, ◌&&◌}
-use Prim.Native.Nat.{ℕ, ◌+◌, ◌-◌, ◌≤◌, ◌<◌}
-use native.Mathlib.Nat.{mod-le, le_trans}
-use lib.Dec.{T, T_not, not_T, ltb→lt, nltb→le, leb→le, nleb→lt, eqb→eq}
+use Rattle.std.proofs.Common.{◌≡◌, ℕ, ◌+◌, ◌-◌, ◌<◌, ◌≤◌, Bool, true, false, not, ◌&&◌, T, ◌≢◌, ◌⊎◌, ◌↔◌, refl, subst, inl, inr, ⊎_elim, le_trans, eqb→eq, ltb→lt, leb→le, nltb→le, T_not}
+use Rattle.std.proofs.Math.Dec.{not_T, nleb→lt}
+use Rattle.std.proofs.Math.Nat.{mod-le}
 use Rattle.words.specs.declared.Answer.{Answer}
 use Rattle.words.specs.declared.Answer.TheVariants.{Put, Got, Took, Whole, Seen, Claimed, Done, Refused}
 use Rattle.words.specs.declared.Refusal.{Refusal}
@@ -20,9 +17,7 @@ use Rattle.book.specs.declared.Deed.{Deed}
 use Rattle.book.specs.declared.Deed.TheVariants.{Put as put, Get as get, Order as order, Desk as desk, Unlisted as unlisted}
 use Rattle.book.specs.Steps.{Step, decode}
 use Rattle.book.specs.Steps.{Desk, idle, looked, Hold, holding, claimed_at, is_fetched, hold_of}
-use Rattle.book.specs.declared.Verdict.{Verdict}
-use Rattle.book.specs.declared.Verdict.TheVariants.{Refuses as refuses}
-use Rattle.book.specs.Verdicts.{judge, stage, column, at_stage, no_block, admitted, lookable, startable, placeable}
+use Rattle.book.specs.Verdicts.{Verdict, refuses, judge, stage, column, at_stage, no_block, admitted, lookable, startable, placeable}
 use Rattle.book.proofs.Choice.{by_test, by_verdict, cases, T→true, not→false, and_first, and_second, and_false}
 use Rattle.book.proofs.Choice.{eq→eqb, eqb_same, lt→true, ge→false, le→true, gt→false}
 use Rattle.book.proofs.Turns.{current_low}
