@@ -15,8 +15,7 @@ use Rattle.book.specs.Sizes.{Size, block_of, current_turn}
 use Rattle.book.specs.declared.DeskStep.{DeskStep}
 use Rattle.book.specs.declared.DeskStep.TheVariants.{Look as look, Claim as claim, Fetch as fetch, Finish as finish}
 use Rattle.book.specs.Steps.{Desk, idle, looked, Hold, holding, claimed_at, with_fetched, is_fetched, hold_of}
-use Rattle.book.specs.declared.Verdict.TheVariants.{Takes as takes, Refuses as refuses}
-use Rattle.book.specs.Verdicts.{stage, column, at_stage, admitted, lookable}
+use Rattle.book.specs.Verdicts.{takes, refuses, stage, column, at_stage, admitted, lookable}
 use Rattle.book.specs.Book.{Book, row_of, waits}
 use Rattle.book.specs.Book as B
 use Rattle.book.proofs.Choice.{same_test, neq_test, by_test}

@@ -15,8 +15,7 @@ use Rattle.words.specs.declared.Answer.TheVariants.{Whole, Refused}
 use Rattle.words.specs.declared.Refusal.TheVariants.{Range}
 use Rattle.book.specs.Sizes.{Size, is_order, round_of}
 use Rattle.book.specs.Steps.{looked}
-use Rattle.book.specs.declared.Verdict.TheVariants.{Takes as takes}
-use Rattle.book.specs.Verdicts.{placeable}
+use Rattle.book.specs.Verdicts.{takes, placeable}
 use Rattle.book.specs.Book.{Row, Book, row_at, row_of, append}
 use Rattle.book.specs.Book as B
 use Rattle.book.proofs.Choice.{by_test, by_test₂, cases, neq_test, by_order}

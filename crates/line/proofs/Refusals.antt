@@ -20,9 +20,7 @@ use Rattle.book.specs.declared.Deed.{Deed}
 use Rattle.book.specs.declared.Deed.TheVariants.{Put as put, Get as get, Order as order, Desk as desk, Unlisted as unlisted}
 use Rattle.book.specs.Steps.{Step, decode}
 use Rattle.book.specs.Steps.{Desk, idle, looked, Hold, holding, claimed_at, is_fetched, hold_of}
-use Rattle.book.specs.declared.Verdict.{Verdict}
-use Rattle.book.specs.declared.Verdict.TheVariants.{Refuses as refuses}
-use Rattle.book.specs.Verdicts.{judge, stage, column, at_stage, no_block, admitted, lookable, startable, placeable}
+use Rattle.book.specs.Verdicts.{Verdict, refuses, judge, stage, column, at_stage, no_block, admitted, lookable, startable, placeable}
 use Rattle.book.proofs.Choice.{by_test, by_verdict, cases, T→true, not→false, and_first, and_second, and_false}
 use Rattle.book.proofs.Choice.{eq→eqb, eqb_same, lt→true, ge→false, le→true, gt→false}
 use Rattle.book.proofs.Turns.{current_low}

@@ -15,8 +15,7 @@ use Rattle.book.specs.Sizes.{Size, block_of, current_turn, is_used, is_owned}
 use Rattle.book.specs.declared.DeskStep.{DeskStep}
 use Rattle.book.specs.declared.DeskStep.TheVariants.{Look as look, Claim as claim, Fetch as fetch, Finish as finish}
 use Rattle.book.specs.Steps.{Desk, idle, looked, Hold, holding, claimed_at, with_fetched, is_fetched, hold_of}
-use Rattle.book.specs.declared.Verdict.{Verdict}
-use Rattle.book.specs.Verdicts.{judge, stage, column, at_stage, no_block, admitted, lookable}
+use Rattle.book.specs.Verdicts.{Verdict, judge, stage, column, at_stage, no_block, admitted, lookable}
 use Rattle.book.proofs.Choice.{by_test, and_first, and_second, T→true, neq_test, neq→eqb}
 use Rattle.book.proofs.Turns.{current_low, current_high}
 use Rattle.line.specs.Line.{Line, Block, Spot, Outcome, nowhere, numbers_of, desk_at, with_desk, with_head, size_in, here}

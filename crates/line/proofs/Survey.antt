@@ -1,6 +1,7 @@
 -- The survey tells the truth: bit b of its mask is an idle desk's look at block b, its count is the ones of the mask, and
 -- its lowest is the lowest of them, or 64. First the laws of a mask of Booleans: a Boolean in front doubles the mask and puts
 -- its bit in. Then the Booleans of the survey are the looks at the blocks, and past the last block a look is refused too.
+use Rattle.std.specs.Prelude.{Ok, Err}
 use mathlib.Core.Path.{◌≡◌, refl, sym, ap, ◌∙◌}
 use mathlib.Core.Logic.{◌≢◌, ◌↔◌}
 use mathlib.Core.Bool.{Bool, true, false, not, ◌&&◌}
@@ -18,15 +19,13 @@ use Rattle.book.specs.Sizes.{fits}
 use Rattle.book.specs.declared.DeskStep.TheVariants.{Look as look}
 use Rattle.book.specs.declared.Deed.TheVariants.{Desk as desk}
 use Rattle.book.specs.Steps.{Step, idle, decode}
-use Rattle.book.specs.declared.Verdict.{Verdict}
-use Rattle.book.specs.declared.Verdict.TheVariants.{Takes as takes, Refuses as refuses}
-use Rattle.book.specs.Verdicts.{judge, admitted}
+use Rattle.book.specs.Verdicts.{Verdict, takes, refuses, judge, admitted}
 use Rattle.book.proofs.Choice.{by_test, choose_true, choose_false, and_first, le→true, gt→false}
 use Rattle.line.specs.Line.{Line, Spot, Outcome, size_of, desk_at, desk_step, does, size_in}
 use Rattle.line.specs.Rules.{Sound}
 use Rattle.line.specs.Check.{fit}
 use Rattle.line.specs.Calls.{step}
-use Rattle.line.specs.Survey.{is_seen, seen_from, bit, mask_of, lowest_from, views, surveys, survey}
+use Rattle.line.specs.Survey.{surveyed, found, is_seen, seen_from, bit, mask_of, lowest_from, views, surveys, survey}
 use Rattle.line.specs.Demands.{bit_at, ones, LeastBit, CheckSound, SurveyTells}
 use Rattle.line.proofs.DeskMoves.{look_step, does_look}
 use Rattle.line.proofs.Cells.{valid}
@@ -125,8 +124,8 @@ mask_lowest bs h =
 
 -- the answer of a verdict's outcome is the verdict's answer
 judge_answer : (v : Verdict) (x : Outcome) (f : Refusal → Outcome) → (judge v x f).answer ≡ judge v x.answer (λ w. (f w).answer)
-judge_answer takes x f = refl
-judge_answer (refuses w) x f = refl
+judge_answer (Ok u) x f = refl
+judge_answer (Err w) x f = refl
 
 module _ (l : Line) where
   abbrev seen : ℕ → ℕ → Bool
@@ -173,11 +172,11 @@ module _ (l : Line) where
       omega (arith, seen_length l.head.nb 0, (valid (size_in l) (and_first a b (and_first (a && b) c f))).nb_most)
 
   module _ (f : T (fit (size_in l) l.table l.entries)) (s : Sound l) where
-    survey_is : survey l ≡ views blocks
+    survey_is : survey l ≡ surveyed (views blocks)
     unfolding survey surveys CheckSound
     survey_is = rw ((check_sound l).1 (f, s)) refl
 
-    survey_bit : (d b : ℕ) → d < l.head.t → bit_at (survey l).mask b ≡ bit (seen d b)
+    survey_bit : (d b : ℕ) → d < l.head.t → bit_at (found (survey l)).mask b ≡ bit (seen d b)
     unfolding views
     survey_bit d b h =
         let there : get_or blocks b false ≡ seen 0 (0 + b) = seen_at (omega arith) l.head.nb 0 b (omega arith) in

@@ -11,8 +11,7 @@ use Rattle.book.specs.declared.DeskStep.TheVariants.{Look as look, Claim as clai
 use Rattle.book.specs.declared.Deed.{Deed}
 use Rattle.book.specs.declared.Deed.TheVariants.{Put as put, Get as get, Order as order, Desk as desk, Unlisted as unlisted}
 use Rattle.book.specs.Steps.{Hold, Desk, idle, looked, holding, claimed_at, with_fetched, hold_of}
-use Rattle.book.specs.declared.Verdict.{Verdict}
-use Rattle.book.specs.Verdicts.{judge, stage, admitted, lookable, placeable}
+use Rattle.book.specs.Verdicts.{Verdict, judge, stage, admitted, lookable, placeable}
 pub use Rattle.line.specs.declared.Desk.{Desk as LentDesk}
 pub use Rattle.line.specs.declared.Block.{Block}
 pub use Rattle.line.specs.declared.Head.{Head}
