@@ -1,9 +1,0 @@
-pub mod Again
-pub mod Called
-pub mod Entered
-pub mod Fields
-pub mod Locals
-pub mod Numbers
-pub mod Pieces
-pub mod Rows
-pub mod Turns
