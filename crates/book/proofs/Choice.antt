@@ -5,6 +5,7 @@ use mathlib.Core.Bool.{Bool, true, false, cond, not, ◌&&◌}
 use Prim.Native.Nat.{ℕ, ◌≤◌, ◌<◌}
 use native.Mathlib.Omega.{arith}
 use lib.Dec.{T, T_not, ltb, leb, eqb, ltb→lt, lt→ltb, nltb→le, leb→le, le→leb, eqb→eq, eqb_refl}
+use Rattle.std.specs.Prelude.{Ok, Err}
 use Rattle.words.specs.declared.Refusal.{Refusal}
 use Rattle.book.specs.Verdicts.{Verdict, takes, refuses, judge}
 
@@ -43,8 +44,8 @@ choose_same false x = refl
 -- ---- by a verdict
 
 pub by_verdict : {A : Type 0} (P : A → Type 0) (v : Verdict) {x : A} {f : Refusal → A} → (v ≡ takes → P x) → ((w : Refusal) → v ≡ refuses w → P (f w)) → P (judge v x f)
-by_verdict P takes g h = g refl
-by_verdict P (refuses w) g h = h w refl
+by_verdict P (Ok tt) g h = g refl
+by_verdict P (Err w) g h = h w refl
 
 -- ---- a test that is known
 

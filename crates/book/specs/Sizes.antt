@@ -1,12 +1,7 @@
 -- The numbers of a line, their limits, and where a turn stands.
 use Rattle.std.specs.Prelude.{Bool, ◌&&◌, ℕ, ◌-◌, ◌/◌, ◌%◌}
 use Rattle.book.specs.Choice.{◌≤ᵇ◌}
-
--- NB blocks, NE entries a block, T desks
-pub record Size : Type 0 where
-  pub nb : ℕ
-  pub ne : ℕ
-  pub t : ℕ
+pub use Rattle.book.specs.declared.Size.{Size}
 
 abbrev pub sized : ℕ → ℕ → ℕ → Size
 sized nb ne t = record { nb = nb; ne = ne; t = t }

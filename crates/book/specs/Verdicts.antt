@@ -1,16 +1,24 @@
 -- When a step is refused: the tests in the order that the paper asks for, over what they read. Line and book share them.
-use Rattle.std.specs.Prelude.{Bool, false, not, ◌&&◌, List, [], ◌∷◌, ℕ, ◌+◌, ◌-◌, get_or, if◌then◌else◌}
+use Rattle.std.specs.Prelude.{Bool, false, not, ◌&&◌, List, [], ◌∷◌, ℕ, ◌+◌, ◌-◌, get_or, if◌then◌else◌, Result, Ok, Err}
 use Rattle.words.specs.declared.Refusal.{Refusal}
 use Rattle.words.specs.declared.Refusal.TheVariants.{Nodesk, Noblock, Stage, Owned, Nothing, Notlabel, Worn, Full, Busy}
 use Rattle.book.specs.Choice.{◌<ᵇ◌, ◌≤ᵇ◌}
 use Rattle.book.specs.Sizes.{Size, is_label, round_of, is_used, is_owned}
 use Rattle.book.specs.Steps.{DeskStep, look, claim, fetch, finish, Desk, idle, looked, holding, is_fetched}
-pub use Rattle.book.specs.declared.Verdict.{Verdict}
-pub use Rattle.book.specs.declared.Verdict.TheVariants.{Takes as takes, Refuses as refuses}
+
+-- what the tests before a step say: it is taken, or refused
+abbrev pub Verdict : Type 0
+Verdict = Result Unit Refusal
+
+abbrev pub takes : Verdict
+takes = Ok tt
+
+abbrev pub refuses : Refusal → Verdict
+refuses w = Err w
 
 abbrev pub judge : {A : Type 0} → Verdict → A → (Refusal → A) → A
-judge takes x f = x
-judge (refuses w) x f = f w
+judge (Ok u) x f = x
+judge (Err w) x f = f w
 
 -- Which stage takes which desk step: a row for each stage, a column for each step.
 abbrev pub grid : List (List Verdict)

@@ -7,7 +7,7 @@ use Prim.Native.String.{String}
 use lib.Dec.{leb}
 use lib.ListN.{length, replicate}
 use lib.Text.{eqt}
-use Rattle.words.specs.Words.{Refusal, Answer, Refused, Letters, said, letters}
+use Rattle.words.specs.Words.{Refusal, Answer, Refused, said, letters}
 use Rattle.words.specs.Spelling.{answers, words, Spelling}
 use Rattle.words.specs.Promises.{Numbered, Valued, Worded}
 
@@ -18,7 +18,7 @@ number_unique a r s p q = p ∙ sym q
 pub value_unique : (a : Answer) (r s : ℕ) → Valued a r → Valued a s → r ≡ s
 value_unique a r s p q = p ∙ sym q
 
-pub word_unique : (a : Answer) (r s : Letters) → Worded a r → Worded a s → r ≡ s
+pub word_unique : (a : Answer) (r s : List ℕ) → Worded a r → Worded a s → r ≡ s
 word_unique a r s p q = p ∙ sym q
 
 -- each word is spelt as the paper spells it

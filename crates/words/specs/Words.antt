@@ -1,13 +1,11 @@
 -- What each answer says: the paper's number, the value and the printed word, one row for each case.
 -- An answer that is no refusal has number 0. A refusal says the value that it carries: 0, except an order's count.
-use Rattle.std.specs.Prelude.{List, [], ◌∷◌, ◌++◌, ℕ, ◌-◌, length, replicate}
-use Prim.Native.Char.{code}
-use Prim.Native.String.{String, [] as none, ◌∷◌ as ◌then◌}
+use Rattle.std.specs.Prelude.{List, ℕ, codes}
+use Prim.Native.String.{String}
 pub use Rattle.words.specs.declared.Refusal.{Refusal}
 pub use Rattle.words.specs.declared.Refusal.TheVariants.{Unfit, Damaged, Badstep, Nodesk, Noblock, Stage, Owned, Nothing, Lost, Notlabel, Range, Worn, Full, Busy, Empty}
 pub use Rattle.words.specs.declared.Answer.{Answer}
 pub use Rattle.words.specs.declared.Answer.TheVariants.{Put, Got, Took, Whole, Seen, Claimed, Done, Refused}
-pub use Rattle.words.specs.declared.Letters.{Letters}
 
 pub record Said : Type 0 where
   pub number : ℕ
@@ -45,10 +43,6 @@ said (Claimed place) = row 0 place "CLAIMED"
 said Done = row 0 0 "DONE"
 said (Refused w v) = row (refusal w).0 v (refusal w).1
 
--- a word's letters as bytes, and as the record that is handed over: eight bytes, the rest zeros
+-- a word's letters as bytes
 abbrev pub letters : String → List ℕ
-letters none = []
-letters (c then s) = code c ∷ letters s
-
-abbrev pub spelled : String → Letters
-spelled s = record { bytes = letters s ++ replicate (8 - length (letters s)) 0; len = length (letters s) }
+letters = codes
