@@ -2,9 +2,11 @@
 ghost use Rattle.std.specs.Prelude.{◌≡◌, ◌+◌, ◌≤◌, length};
 ghost use Rattle.schedule.specs.Bytes.{header_bytes, step_bytes, is_long, is_header, header, number_at, step_at, whole_steps, is_cut};
 ghost use Rattle.schedule.specs.Messages.{step_of};
+ghost use Rattle.schedule.specs.Stepwise.{Stepwise};
 
 use crate::{HEADER, LIMIT, Message, STEP};
 use book::Size;
+use std::slice::ChunksExact;
 
 pub fn is_long(input: &[u8]) -> bool
     ensures { result ≡ is_long input.now }
@@ -52,6 +54,14 @@ pub fn step_at(input: &[u8], at: usize) -> Message
         a: number_at(input, at + 1),
         b: number_at(input, at + 5),
     }
+}
+
+// The nine bytes of each whole step, one step after the other. Their remainder is the bytes of a step cut short.
+pub fn steps(input: &[u8]) -> ChunksExact<'_, u8>
+    requires { header_bytes ≤ length input.now }
+    ensures { Stepwise input.now result }
+{
+    input[HEADER..].chunks_exact(STEP)
 }
 
 // How many whole steps follow the header, and whether bytes of one more do.
