@@ -1,7 +1,7 @@
 -- Order is kept: in every run from opening, for every size and every list of steps, labels come out in the order they went
 -- in. proofs/ has a proof of each statement, under the same name in small letters.
-use Rattle.std.specs.Prelude.{◌≡◌, not, ◌&&◌, ℕ, ◌/◌, ◌<◌, filter, length, take, if◌then◌else◌}
-use mathlib.Core.List.{List, [], ◌∷◌, ◌++◌, map, Sublistᴰ as Sublist}
+use Rattle.std.specs.Prelude.{◌≡◌, not, ◌&&◌, List, [], ◌∷◌, ◌++◌, map, ℕ, ◌/◌, ◌<◌, filter, length, take, if◌then◌else◌}
+use mathlib.Core.List.{Sublistᴰ as Sublist}
 use Rattle.words.specs.declared.Answer.{Answer}
 use Rattle.book.specs.Choice.{◌≡ᵇ◌}
 use Rattle.book.specs.Sizes.{Size}
