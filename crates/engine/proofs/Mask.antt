@@ -3,16 +3,14 @@ use Rattle.std.specs.Prelude.{if◌then◌else◌}
 use mathlib.Core.Path.{◌≡◌, refl, sym, ap, ap₂, ◌∙◌}
 use mathlib.Core.Bool.{Bool, true, false}
 use mathlib.Core.List.{List, [], ◌∷◌}
-use Prim.Native.Nat.{ℕ, zero, suc, ◌+◌, ◌-◌, ◌*◌, ◌/◌, ◌%◌, ◌^◌, ◌≤◌, ◌<◌}
+use Prim.Native.Nat.{ℕ, zero, suc, ◌+◌, ◌*◌, ◌/◌, ◌%◌, ◌^◌, ◌≤◌, ◌<◌}
 use native.Mathlib.Nat.{pow-suc, zero-add}
 use Rattle.std.proofs.Common.{bit_or, add-zero, add-suc, add-one, suc-add}
 use Rattle.std.proofs.lemmas.Nat.{shl_whole, or_comm, or_shifted}
 use native.Mathlib.Omega.{arith}
 use lib.Count.{ones, ones_step, count_trailing_zeros, under, trailing_of_zero}
 use lib.ListN.{length}
-use lib.Pow.{pow_mono}
 use Rattle.book.specs.Total.{total}
-use Rattle.line.specs.declared.Surveyed.TheVariants.{Survey}
 use Rattle.line.specs.declared.Findings.{Findings}
 use Rattle.line.specs.Survey.{bit, mask_of, lowest_from, views}
 use Rattle.line.proofs.Survey.{bit_le}
@@ -50,12 +48,12 @@ mask_lowest (x ∷ bs) (suc k) i h e =
 
 -- what a survey says of its mask
 abbrev pub told : ℕ → Findings
-told m = record { answer = Survey; mask = m; count = ones m; lowest = count_trailing_zeros 64 m }
+told m = record { mask = m; count = ones m; lowest = count_trailing_zeros 64 m }
 
 pub told_views : (bs : List Bool) → length bs ≤ 64 → told (mask_of bs) ≡ views bs
 unfolding views
 told_views bs h =
-    ap₂ (λ (c i : ℕ). record { answer = Survey; mask = mask_of bs; count = c; lowest = i }) (mask_ones bs) (rw zero-add at (mask_lowest bs 64 0 h refl))
+    ap₂ (λ (c i : ℕ). record { mask = mask_of bs; count = c; lowest = i }) (mask_ones bs) (rw zero-add at (mask_lowest bs 64 0 h refl))
 
 -- ---- the bits of n blocks from block i on
 
