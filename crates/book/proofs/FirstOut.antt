@@ -1,5 +1,5 @@
 -- First in, first out. Where no claim is won the rows gone are the first of all, as many as were got, and a get takes the next.
-use Rattle.std.proofs.Common.{◌≡◌, ℕ, zero, suc, ◌+◌, ◌-◌, ◌/◌, ◌<◌, ◌≤◌, T, eqb, ltb, List, [], ◌∷◌, map, length, get_or, take, set, sym, refl, ap, ◌∙◌, arith, eqb→eq, ltb→lt, lt→ltb, nltb→le}
+use Rattle.std.proofs.Common.{◌≡◌, ℕ, zero, suc, ◌+◌, ◌-◌, ◌/◌, ◌<◌, ◌≤◌, T, eqb, ltb, List, [], ◌∷◌, map, length, get_or, take, set, sym, refl, ap, ◌∙◌, arith, eqb→eq, ltb→lt, lt→ltb, nltb→le, true≢false, lt-ltb, le-ltb}
 use Rattle.std.proofs.Math.ListN.{length-map}
 use Rattle.book.specs.Choice.{◌<ᵇ◌}
 use Rattle.book.specs.Total.{total, up_from}
@@ -9,7 +9,7 @@ use Rattle.book.specs.Book.{Row, Book, Outcome, row_at, desk_at, append, mark_go
 use Rattle.book.specs.Counts.{count, got, won}
 use Rattle.book.specs.Demands.{Counting, Placed, Handed}
 use Rattle.book.specs.Order.{FirstInFirstOut, PlacedInOrder}
-use Rattle.book.proofs.Choice.{true_not_false, by_test, by_verdict, by_order, cases, neq_test, same_test, lt→true, ge→false}
+use Rattle.book.proofs.Choice.{by_test, by_verdict, by_order, cases, neq_test, same_test}
 use Rattle.book.proofs.Turns.{div_mono}
 use Rattle.book.proofs.Total.{replicate_at}
 use Rattle.book.proofs.Rows.{row_turn, first_fits, first_waits, first_in, row_append, mark_other, mark_same}
@@ -71,14 +71,14 @@ module _ (z : Size) where
       next_is : next ≡ g
       next_is =
           by_order next g
-          (λ h. absurd (true_not_false (sym (lt→true next g h) ∙ sym (c.marks next) ∙ first_waits z b.rows (reads z b) w)))
+          (λ h. absurd (true≢false (sym (lt-ltb next g h) ∙ sym (c.marks next) ∙ first_waits z b.rows (reads z b) w)))
           (λ e. e)
-          (λ h. absurd (true_not_false (sym (all_before g h) ∙ c.marks g ∙ ge→false g g (omega arith))))
+          (λ h. absurd (true≢false (sym (all_before g h) ∙ c.marks g ∙ le-ltb g g (omega arith))))
 
       marks_next : (n : ℕ) → (row_at (mark_gone b.rows next) n).gone ≡ (n <ᵇ g + 1)
       marks_next n =
           cases (eqb n next)
-          (λ t. let e = eqb→eq n next t in rw e (mark_same b.rows next (first_in z b.rows (reads z b) w) ∙ sym (lt→true next (g + 1) (omega (arith, next_is)))))
+          (λ t. let e = eqb→eq n next t in rw e (mark_same b.rows next (first_in z b.rows (reads z b) w) ∙ sym (lt-ltb next (g + 1) (omega (arith, next_is)))))
           (λ t. let d = neq_test n next t in
           ap (λ (r : Row). r.gone) (mark_other b.rows next n d) ∙ c.marks n
           ∙ same_test (n <ᵇ g) (n <ᵇ g + 1) (λ l. lt→ltb n (g + 1) (let h = ltb→lt n g l in omega arith)) (λ l. lt→ltb n g (let h = ltb→lt n (g + 1) l in omega (arith, next_is))))
@@ -128,7 +128,7 @@ module _ (z : Size) where
 
   opened_clean : Clean 0 (opened z)
   unfolding opened
-  opened_clean = record { marks = λ n. sym (ge→false n 0 (omega arith)); desks = λ d. rw (replicate_at {A = Desk ℕ} z.t d idle) tt }
+  opened_clean = record { marks = λ n. sym (le-ltb n 0 (omega arith)); desks = λ d. rw (replicate_at {A = Desk ℕ} z.t d idle) tt }
 
 map_same : (f g : ℕ → ℕ) → ((n : ℕ) → f n ≡ g n) → (l : List ℕ) → map f l ≡ map g l
 map_same f g h [] = refl

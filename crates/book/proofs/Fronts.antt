@@ -2,7 +2,7 @@
 -- A get takes the first waiting row of a turn, and K moves on only from a turn in which none waits. A look sees the first waiting row
 -- of a turn, and a claim is won only while that row waits: then all rows before it in its turn are gone still.
 -- With it: K ≤ P, P - K ≤ NB - 1, and the round of turn P is below 65,536.
-use Rattle.std.proofs.Common.{◌≡◌, ℕ, zero, suc, ◌+◌, ◌-◌, ◌*◌, ◌/◌, ◌%◌, ◌<◌, ◌≤◌, true, false, not, T, eqb, ltb, ◌⊎◌, List, [], ◌∷◌, length, set, sym, refl, ap, ◌∙◌, inl, inr, ⊎_elim, zero-le, le_trans, le_of_suc-le-suc, not-suc-le-zero, mul-le-mul_right, mod-lt, div-lt_iff_lt-mul, div-add-mod', div-mul-le_self, arith, eqb→eq, ltb→lt, nltb→le, T_not, length-append}
+use Rattle.std.proofs.Common.{◌≡◌, ℕ, zero, suc, ◌+◌, ◌-◌, ◌*◌, ◌/◌, ◌%◌, ◌<◌, ◌≤◌, true, false, not, T, eqb, ltb, ◌⊎◌, List, [], ◌∷◌, length, set, sym, refl, ap, ◌∙◌, inl, inr, ⊎_elim, zero-le, le_trans, le_of_suc-le-suc, not-suc-le-zero, mul-le-mul_right, mod-lt, div-lt_iff_lt-mul, div-add-mod', div-mul-le_self, arith, eqb→eq, ltb→lt, nltb→le, T_not, length-append, true≢false}
 use Rattle.std.proofs.Math.Dec.{nleb→lt}
 use Rattle.std.proofs.Math.Nat.{div-zero, zero-div, lt-div-mul-add}
 use Rattle.words.specs.declared.Refusal.{Refusal}
@@ -13,7 +13,7 @@ use Rattle.book.specs.Steps.{Step, DeskStep, Deed, decode, Desk, idle, looked, h
 use Rattle.book.specs.Book.{Row, Book, Outcome, row_at, desk_at, append, mark_gone, gone_before, put_turn, row_of, rows_of, written, first, waits, is_busy, may_put, put_step, put_many, order_step, read_turn}
 use Rattle.book.specs.Book.{get_at, get_step, desk_step, does, step, opened, after}
 use Rattle.book.specs.Demands.{GetMoves}
-use Rattle.book.proofs.Choice.{by_test, cases, T→true, true_not_false, neq_test}
+use Rattle.book.proofs.Choice.{by_test, cases, T→true, neq_test}
 use Rattle.book.proofs.Total.{replicate_at}
 use Rattle.book.proofs.Turns.{div_mono, div_next}
 use Rattle.book.proofs.Deeds.{by_deed}
@@ -320,7 +320,7 @@ module _ (z : Size) where
     reached = zero-le;
     near = rw (zero-div z.ne) zero-le;
     rounds = rw (zero-div z.ne, zero-div z.nb) (omega arith);
-    prefix = λ n g. absurd (true_not_false (sym g));
+    prefix = λ n g. absurd (true≢false (sym g));
     past = λ n h. absurd (omega arith);
     seen = λ d. rw (replicate_at {A = Desk ℕ} z.t d idle) tt;
   }

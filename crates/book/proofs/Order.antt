@@ -1,14 +1,14 @@
 -- Order is kept. In a turn the rows gone are its first (proofs/Fronts.antt), so a row that waits stands after all that are gone.
 -- A row that goes later waits now: so within one turn it is larger. And what a get hands over later is of this turn K or of a later one:
 -- so it is larger too.
-use Rattle.std.proofs.Common.{◌≡◌, ℕ, suc, ◌/◌, ◌<◌, ◌≤◌, Bool, false, not, ◌&&◌, T, eqb, ltb, List, [], ◌∷◌, ◌++◌, length, sym, ◌∙◌, zero-le, arith, eqb→eq, ltb→lt, nltb→le}
+use Rattle.std.proofs.Common.{◌≡◌, ℕ, suc, ◌/◌, ◌<◌, ◌≤◌, Bool, false, not, ◌&&◌, T, eqb, ltb, List, [], ◌∷◌, ◌++◌, length, sym, ◌∙◌, zero-le, arith, eqb→eq, ltb→lt, nltb→le, true≢false}
 use Rattle.book.specs.Choice.{◌≡ᵇ◌}
 use Rattle.book.specs.Sizes.{Size}
 use Rattle.book.specs.Steps.{Step, decode}
 use Rattle.book.specs.Total.{up_from}
 use Rattle.book.specs.Book.{Row, Book, Outcome, row_at, row_of, first, waits, get_at, get_step, does, step, opened}
 use Rattle.book.specs.Order.{filter, went_by, went_rows, got_rows, GetsInOrder, GoesInOrder}
-use Rattle.book.proofs.Choice.{by_test, cases, T→true, not→false, true_not_false, and_first, and_second, neq_test}
+use Rattle.book.proofs.Choice.{by_test, cases, T→true, not→false, and_first, and_second, neq_test}
 use Rattle.book.proofs.Turns.{div_mono}
 use Rattle.book.proofs.Rows.{row_turn, first_fits, first_waits, first_in, mark_same}
 use Rattle.book.proofs.Fronts.{Gone, Fronts, Grows, reads, reads_low, step_grows, opened_fronts}
@@ -20,7 +20,7 @@ abbrev Waits : List Row → ℕ → Type 0
 Waits rs n = (row_at rs n).gone ≡ false
 
 not_both : (rs : List Row) (n : ℕ) → Gone rs n → Waits rs n → ⊥
-not_both rs n g w = true_not_false (sym g ∙ w)
+not_both rs n g w = true≢false (sym g ∙ w)
 
 module _ (z : Size) where
   -- of two rows of one turn the one that waits stands after the one that is gone

@@ -1,7 +1,7 @@
 -- Laws of sums and searches over a list.
-use Rattle.std.proofs.Common.{◌≡◌, ℕ, zero, suc, ◌+◌, ◌<◌, ◌≤◌, Bool, T, ltb, List, [], ◌∷◌, ◌++◌, length, get_or, set, replicate, if◌then◌else◌, sym, refl, ap, ◌∙◌, le_of_suc-le-suc, not-suc-le-zero, arith}
+use Rattle.std.proofs.Common.{◌≡◌, ℕ, zero, suc, ◌+◌, ◌<◌, ◌≤◌, Bool, T, ltb, List, [], ◌∷◌, ◌++◌, length, get_or, set, replicate, if◌then◌else◌, sym, refl, ap, ◌∙◌, le_of_suc-le-suc, not-suc-le-zero, arith, lt-ltb}
 use Rattle.book.specs.Total.{total, any}
-use Rattle.book.proofs.Choice.{cases, T→true, not→false, lt→true}
+use Rattle.book.proofs.Choice.{cases, T→true, not→false}
 
 module _ {A : Type 0} where
   pub total_append : (f : A → ℕ) (l m : List A) → total f (l ++ m) ≡ total f l + total f m
@@ -61,7 +61,7 @@ module _ {A : Type 0} where
   any_total f (x ∷ xs) =
       let n = total (λ (y : A). if f y then 1 else 0) xs in
       cases (f x)
-      (λ s. rw (T→true (f x) s) (sym (lt→true 0 (1 + n) (omega arith))))
+      (λ s. rw (T→true (f x) s) (sym (lt-ltb 0 (1 + n) (omega arith))))
       (λ s. rw (not→false (f x) s) (any_total f xs ∙ ap (ltb 0) (let e : n ≡ 0 + n = omega arith in e)))
 
   -- and then it stands somewhere

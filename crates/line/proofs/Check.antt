@@ -26,7 +26,7 @@ idle_is (looked s) t = absurd t
 idle_is (holding h) t = absurd t
 
 idle_told : (x : Desk Spot) → Tells (is_idle x) (x ≡ idle)
-idle_told x = record { to = idle_is x; from = λ e. subst (λ (y : Desk Spot). T (is_idle y)) (sym e) tt }
+idle_told x = record { to = idle_is x; from = λ e. rw e tt }
 
 spot_told : (x s : Spot) → Tells (eqb x.turn s.turn && eqb x.place s.place) (x ≡ s)
 spot_told x s =

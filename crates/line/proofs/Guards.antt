@@ -2,7 +2,7 @@
 -- whether the numbers and lengths fit. For the other way round, that a step on a sound line answers neither UNFIT nor
 -- DAMAGED, each step is followed through its tests once: every refusal in them has a later number. At the end, what is
 -- cited of a step and an order on a sound line.
-use Rattle.std.proofs.Common.{◌≡◌, ℕ, zero, suc, ◌+◌, ◌-◌, Bool, true, not, ◌&&◌, T, [], get_or, Ok, Err, sym, refl, ap, subst, arith}
+use Rattle.std.proofs.Common.{◌≡◌, ℕ, zero, suc, ◌+◌, ◌-◌, Bool, true, not, ◌&&◌, T, [], get_or, Ok, Err, sym, refl, ap, subst}
 use Rattle.std.proofs.Math.Dec.{not_T}
 use Rattle.words.specs.declared.Answer.{Answer}
 use Rattle.words.specs.declared.Answer.TheVariants.{Refused}
@@ -44,7 +44,7 @@ pub later_damaged : (o : Outcome) (n : ℕ) → Later o → o.answer ≡ Refused
 later_damaged o n h e = subst (λ (a : Answer). T (is_later a)) e h
 
 unfit_damaged : Refused Unfit 0 ≡ Refused Damaged 0 → ⊥
-unfit_damaged e = let n = ap (λ (a : Answer). (said a).number) e in omega arith
+unfit_damaged e = cc
 
 -- ---- the verdicts, their refusals given with the value n
 

@@ -2,10 +2,10 @@
 -- as many but for that desk; and rule 3 is kept if the new desk obeys it and takes no spot that another desk holds. The record
 -- of one turn changes: every other turn of the window has the record that it had, so only that one turn is looked at; and where
 -- neither claimed nor written falls, rules 2 and 3 are kept.
-use Rattle.std.proofs.Common.{◌≡◌, ℕ, ◌+◌, ◌<◌, ◌≤◌, eqb, ◌≢◌, List, length, get_or, set, refl, ap, ◌∙◌, arith, eqb→eq, length-set, get_or-set_other, get_or-set_same}
+use Rattle.std.proofs.Common.{◌≡◌, ℕ, ◌+◌, ◌<◌, ◌≤◌, eqb, ◌≢◌, List, length, get_or, set, refl, ap, ◌∙◌, arith, eqb→eq, length-set, get_or-set_other, get_or-set_same, ne_eqb}
 use Rattle.book.specs.Sizes.{Size, block_of}
 use Rattle.book.specs.Steps.{Desk, idle, looked, holding, is_fetched}
-use Rattle.book.proofs.Choice.{cases, neq_test, neq→eqb, eqb_same, by_test, T→true, not→false}
+use Rattle.book.proofs.Choice.{cases, neq_test, eqb_same, by_test, T→true, not→false}
 use Rattle.book.proofs.Total.{total_set}
 use Rattle.line.specs.Line.{Line, LentDesk, Block, Head, Spot, numbers_of, desk_of, desk_at, with_desk, with_head, size_in, here}
 use Rattle.line.specs.Rules.{held_in, Holds, Current, DeskRule, Rule3}
@@ -38,7 +38,7 @@ held_one (holding x) s h = rw (h, eqb_same s.turn) refl
 pub held_none : (x : Desk Spot) (t : ℕ) → ((s : Spot) → Holds x s → s.turn ≢ t) → held_in t x ≡ 0
 held_none idle t h = refl
 held_none (looked x) t h = refl
-held_none (holding x) t h = rw (neq→eqb x.at.turn t (h x.at refl)) refl
+held_none (holding x) t h = rw (ne_eqb x.at.turn t (h x.at refl)) refl
 
 pub held_rule : (l : Line) (x : Desk Spot) (s : Spot) → Holds x s → DeskRule l x → Current l s.turn × (s.place < (here l s.turn).claimed)
 held_rule l idle s h o = absurd h

@@ -23,12 +23,8 @@ by_verdict₂ P v u {x} {f} {y} {h} e g r = subst (λ (c : Verdict). P (judge v 
 
 -- ---- a refusal does not take
 
-abbrev Refuses : Verdict → Type 0
-Refuses (Ok u) = ⊥
-Refuses (Err w) = Unit {0}
-
 pub refuses_not : (w : Refusal) → refuses w ≡ takes → ⊥
-refuses_not w e = subst Refuses e tt
+refuses_not w e = cc
 
 module _ (z : Size) where
   -- ---- a desk's step

@@ -1,0 +1,9 @@
+pub mod Again
+pub mod Called
+pub mod Entered
+pub mod Fields
+pub mod Locals
+pub mod Numbers
+pub mod Pieces
+pub mod Rows
+pub mod Turns
