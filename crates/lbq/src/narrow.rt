@@ -1,6 +1,6 @@
 // The numbers that cross are 32 bits wide; the portal takes a code of 8 bits and sizes of 16. A larger number becomes
 // the largest of that width, which is no code and fits nothing, so it means what the number meant:
-// proofs/Narrowed.antt.
+// proofs/Narrowed.antt. One function for each width: one for both would be longer than the two.
 ghost use Rattle.std.specs.Prelude.{◌≡◌};
 ghost use Rattle.lbq.specs.Narrow.{narrow_code, narrow_size};
 

@@ -1,5 +1,5 @@
-// What crosses of each answer: a Result or an enum with values cannot, so its number and its values do, in the records
-// of the C interface. specs/Replies.antt has each case.
+// What crosses of each answer: a Result or an enum with values cannot, so its number and its values do. The numbers are
+// those of the C interface. specs/Replies.antt has each case.
 ghost use Rattle.std.specs.Prelude.{◌≡◌};
 ghost use Rattle.lbq.specs.Replies.{of_answer, of_opening, of_check, of_survey};
 
