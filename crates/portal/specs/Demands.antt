@@ -18,7 +18,7 @@ use Rattle.line.specs.declared.Head.{Head}
 use Rattle.line.specs.declared.Findings.{Findings}
 use Rattle.line.specs.Line.{Line, says, size_of, desk_at, desk_step, get_at, with_desk, with_head, record_of, opened}
 use Rattle.line.specs.Rules.{Sound}
-use Rattle.line.specs.Check.{Checked, sound, unfit, broken, fit}
+use Rattle.line.specs.Check.{Checked, sound, unfit, broken as broken_at, fit}
 use Rattle.line.specs.Calls.{Opening, open·line, open·unfit}
 use Rattle.line.specs.Survey.{Surveyed, surveyed, survey·unfit, survey·damaged, found}
 use Rattle.line.specs.Refusals.{When}
@@ -77,9 +77,9 @@ OrderRefusedWhen = (l m : Line) (first last : ℕ) (r : Answer) → Orders l fir
 pub record CheckSays (l : Line) (r : Checked) : Type 0 where
   pub unfit : (r ≡ unfit) ↔ (Fit l → ⊥)
   pub sound : (r ≡ sound) ↔ (Fit l × Sound l)
-  pub broken : (place rule : ℕ) → r ≡ broken place rule → Fit l × FirstBroken l place rule
+  pub broken : (place rule : ℕ) → r ≡ broken_at place rule → Fit l × FirstBroken l place rule
   -- and the other way: the first rule that is broken is named, with its place
-  pub first : (place rule : ℕ) → Fit l → FirstBroken l place rule → r ≡ broken place rule
+  pub first : (place rule : ℕ) → Fit l → FirstBroken l place rule → r ≡ broken_at place rule
 
 unfoldable pub CheckTold : Type 0
 CheckTold = (l : Line) (r : Checked) → Checks l r → CheckSays l r

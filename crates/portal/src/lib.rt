@@ -20,6 +20,9 @@
 //
 // `words::number`, `words::value` and `words::word` tell an answer's number, value and word. Each
 // call's promise is one equation with the line's own definitions: specs/Promises.antt.
+//
+// Head, table and entries come one by one, and so do the numbers of `open` and `step`: the C interface lends and gives
+// them so, and so the README writes the calls.
 ghost use Rattle.engine.specs.Promises.{GivesOpening, GivesStep, GivesOrder};
 ghost use Rattle.portal.specs.Lending.{Lends};
 ghost use Rattle.portal.specs.Promises.{lent, the_size, the_step, Opens, Steps, Orders, Checks, Surveys};
@@ -29,8 +32,8 @@ use byvalue::Outcome;
 use line::{Block, Fault, Findings, Head};
 use words::{Answer, Refusal};
 
-// One call by value on what is lent: it takes the head and the records that are loaded, and the records and the head
-// that it gives back are stored.
+// One call by value on what is lent. The head is unpacked and the records are loaded; the records and the head that the
+// call gives back are stored.
 fn lend<A, F: FnOnce(Head, [Block; 64], usize, &mut [u32]) -> Outcome<A>>(
     head: &mut Head,
     table: &mut [Block],
