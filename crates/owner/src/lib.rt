@@ -161,10 +161,12 @@ pub fn put(h: Head, table: [Block; 64], entries: &mut [u32], a: u32) -> Outcome<
     requires { Ready h table entries.old }
     ensures { given_back result entries.new ≡ back_of table h.nb (put_step (size_of h) (line_of h table h.nb entries.old) a) }
 {
-    let here = block_of(h.p, u32::from(h.nb));
+    let nb = u32::from(h.nb);
+    let ne = u32::from(h.ne);
+    let here = block_of(h.p, nb);
     match room_for(&h, &table, here, a) {
         Ok(room) => {
-            write_label(entries, u32::from(h.ne), room.block, room.place, a);
+            write_label(entries, ne, room.block, room.place, a);
             let mut records = table;
             records[room.block] = room.after;
             Outcome {
@@ -185,10 +187,11 @@ pub fn order(h: Head, table: [Block; 64], entries: &mut [u32], a: u32, b: u32) -
     if !is_order(a, b) {
         return Outcome::refused(Refusal::Range, h, table);
     }
+    let nb = u32::from(h.nb);
     let ne = u32::from(h.ne);
     let mut head = h;
     let mut t = table;
-    let mut here = block_of(h.p, u32::from(h.nb));
+    let mut here = block_of(h.p, nb);
     for label in a..=b {
         match room_for(&head, &t, here, label) {
             Ok(room) => {
@@ -219,6 +222,7 @@ pub fn get(h: Head, table: [Block; 64], entries: &[u32]) -> Outcome<Answer>
     ensures { given_back result entries.now ≡ back_of table h.nb (get_step (size_of h) (line_of h table h.nb entries.now)) }
 {
     let nb = u32::from(h.nb);
+    let ne = u32::from(h.ne);
     let mut head = h;
     let mut here = block_of(h.k, nb);
     let mut current = table[here];
@@ -231,7 +235,8 @@ pub fn get(h: Head, table: [Block; 64], entries: &[u32]) -> Outcome<Answer>
     if !is_written(head.reading, current.written) {
         return Outcome::refused(Refusal::Empty, head, table);
     }
-    let label = read_label(entries, u32::from(h.ne), here, u32::from(head.reading));
+    let place = u32::from(head.reading);
+    let label = read_label(entries, ne, here, place);
     head.reading += 1;
     Outcome {
         answer: Answer::Got(label),
