@@ -47,7 +47,7 @@ module _ (h : Head) (t₀ : List Block) (es₀ : List ℕ) (a b : ℕ) where
   pub record Placed (g : Head) (t : List Block) (es : List ℕ) (i label : ℕ) : Type 0 where
     pub reads : Reads g t es i
     pub same : size_of g ≡ z
-    pub last : b ≤ 999999
+    pub range : (a ≤ b) × (b ≤ 999999)
     pub from : a ≤ label
     pub to : label ≤ b + 1
     pub others : drop g.nb t ≡ drop g.nb t₀
@@ -59,13 +59,12 @@ module _ (h : Head) (t₀ : List Block) (es₀ : List ℕ) (a b : ℕ) where
 
   pub none_placed : Ready h t₀ es₀ → is_order a b ≡ true → (i : ℕ) → i ≡ h.p % h.nb → Placed h t₀ es₀ i a
   none_placed r e i at =
-      let o = in_range a b e in
       record {
         reads = record { ready = r; here = at };
         same = refl;
-        last = o.1;
+        range = in_range a b e;
         from = omega arith;
-        to = omega arith;
+        to = let o = in_range a b e in omega arith;
         others = refl;
         more = begins e;
       }
@@ -81,9 +80,12 @@ module _ (h : Head) (t₀ : List Block) (es₀ : List ℕ) (a b : ℕ) where
     back : (r : Answer) → out ≡ says (line_of g t g.nb es) r → given r g t es ≡ back_of t₀ h.nb out
     back r e = rw (e, ← same_nb) (back_lent g.nb (blocks g t es s.reads.ready).1 t₀ t g es r s.others)
 
-    pub whole : b < label → given (Whole (label - a)) g t es ≡ back_of t₀ h.nb out
+    pub whole : b < label → given (Whole (b - a + 1)) g t es ≡ back_of t₀ h.nb out
     unfolding put_many
-    whole k = let e : suc b - label ≡ 0 = omega arith in back (Whole (label - a)) (rw (s.more, e))
+    whole k =
+        let none : suc b - label ≡ 0 = omega arith in
+        let count : b - a + 1 ≡ label - a = let r = s.range in let u = s.to in omega arith in
+        back (Whole (b - a + 1)) (rw (s.more, none, count))
 
     module _ (k : label ≤ b) where
       up : suc b - label ≡ suc (b - label)
@@ -100,7 +102,7 @@ module _ (h : Head) (t₀ : List Block) (es₀ : List ℕ) (a b : ℕ) where
           record {
             reads = record { ready = ready_after s.reads label e y; here = room_block s.reads _ y.room };
             same = s.same;
-            last = s.last;
+            range = s.range;
             from = let f = s.from in omega arith;
             to = omega arith;
             others = kept s.reads label e y ∙ s.others;

@@ -1,45 +1,48 @@
-use Rattle.std.proofs.Common.{rules, ◌≡◌, get_or, ◌+◌, ◌-◌, ◌*◌, ◌%◌, ◌≤◌, ◌<◌, ℕ, length, ◌/◌, Bool, true, false, nat_eq, nat_lt, List, [], ◌∷◌, ◌++◌, slice_set, bit_and, bit_or, Fits, w8, w32, w64, Bor, MutBor}
-use Rattle.book.specs.Choice.{◌<ᵇ◌, ◌≡ᵇ◌}
-use Rattle.book.specs.Sizes.{highest_label, is_label, is_order}
-use Rattle.book.specs.Verdicts.{judge, startable, placeable}
-use Rattle.line.specs.Line.{unused, size_of, is_busy, room_of, moves_on, put_step, order_step, get_step}
-use Rattle.byvalue.specs.Lent.{line_of}
-use Rattle.byvalue.specs.GivenBack.{given_back, back_of}
-use Rattle.byvalue.specs.Ready.{Ready}
+use Rattle.std.proofs.Common.{◌<◌, ◌≤◌, sym, arith}
+use Rattle.std.proofs.lemmas.Bool.{ltb-true}
+use Rattle.byvalue.proofs.Ready.{sizes, blocks, block_below, stands}
+use Rattle.owner.proofs.Gets.{begins, onward, moved, empty, got, place_below}
 use Rattle.owner.proofs.get.Goals as goal
+use Rattle.owner.proofs.get.Goals.{After-from-place}
 
--- src/lib.rt:227:9
 pub block_of-here-requires : goal.block_of-here-requires
-block_of-here-requires c = ?
+block_of-here-requires c = rw c.from-nb.ensures (blocks _ _ _ c.requires)
 
--- src/lib.rt:229:5
 pub loop-current-init : goal.loop-current-init
-loop-current-init c = ?
+loop-current-init c = begins _ _ _ c.requires _ (rw c.from-nb.ensures at c.block_of-here.ensures.0)
 
--- src/lib.rt:231:9
 pub block_after-here-requires : goal.block_after-here-requires
-block_after-here-requires c = ?
+block_after-here-requires c =
+    let s = c.loop-current.invariant in
+    rw c.from-nb.ensures (block_below _ _ _ s.ready _ _ s.block)
 
--- src/lib.rt:229:5
 pub loop-current-smaller : goal.loop-current-smaller
-loop-current-smaller c = ?
+loop-current-smaller c = omega (arith, onward _ _ _ c.loop-current.invariant (sym c.loop-current-test.ensures))
 
--- src/lib.rt:229:5
 pub loop-current-preserved : goal.loop-current-preserved
-loop-current-preserved c = ?
+loop-current-preserved c =
+    moved _ _ _ c.loop-current.invariant (sym c.loop-current-test.ensures) _ (rw c.from-nb.ensures at c.block_after-here.ensures.0)
 
--- src/lib.rt:236:9
 pub returns-then-not-is_written : goal.returns-then-not-is_written
-returns-then-not-is_written c = ?
+returns-then-not-is_written c =
+    rw c.refused.ensures (empty _ _ _ c.loop-current.invariant (sym c.loop-current-test.ensures) (sym c.if-not-is_written.ensures))
 
--- src/lib.rt:239:9
+-- the reading place is below NE, where a label stands at it
+below : (c : After-from-place) → (c.loop-current.head.reading < c.args.h.ne) × (c.args.h.ne ≤ 64)
+below c =
+    let s = c.loop-current.invariant in
+    (place_below _ _ _ s (ltb-true _ _ (sym c.if-not-is_written.ensures)), (sizes _ _ _ s.ready).ne_most)
+
 pub read_label-label-requires : goal.read_label-label-requires
-read_label-label-requires c = ?
+read_label-label-requires c =
+    let s = c.loop-current.invariant in
+    rw (c.from-ne.ensures, c.from-place.ensures)
+    (stands _ _ _ s.ready _ _ s.block _ (below (goal.at.read_label-label-requires c).After-from-place).0)
 
--- src/lib.rt:240:5
 pub overflow_add-head-2 : goal.overflow_add-head-2
-overflow_add-head-2 c = ?
+overflow_add-head-2 c = omega (arith, below (goal.at.overflow_add-head-2 c).After-from-place)
 
--- src/lib.rt:220:1
 pub returns : goal.returns
-returns c = ?
+returns c =
+    got _ _ _ c.loop-current.invariant (sym c.loop-current-test.ensures) _ (sym c.if-not-is_written.ensures)
+    (rw (c.from-ne.ensures, c.from-place.ensures) at c.read_label-label.ensures)

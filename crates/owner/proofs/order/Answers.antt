@@ -1,53 +1,48 @@
-use Rattle.std.proofs.Common.{rules, ◌≡◌, get_or, ◌+◌, ◌-◌, ◌*◌, ◌%◌, ◌≤◌, ◌<◌, ℕ, length, ◌/◌, Bool, true, false, nat_eq, nat_lt, List, [], ◌∷◌, ◌++◌, slice_set, bit_and, bit_or, Fits, w8, w32, w64, Bor, MutBor}
-use Rattle.book.specs.Choice.{◌<ᵇ◌, ◌≡ᵇ◌}
-use Rattle.book.specs.Sizes.{highest_label, is_label, is_order}
-use Rattle.book.specs.Verdicts.{judge, startable, placeable}
-use Rattle.line.specs.Line.{unused, size_of, is_busy, room_of, moves_on, put_step, order_step, get_step}
-use Rattle.byvalue.specs.Lent.{line_of}
-use Rattle.byvalue.specs.GivenBack.{given_back, back_of}
-use Rattle.byvalue.specs.Ready.{Ready}
+-- Where the room is asked for, turn P's block is known; each answer is then a law's.
+use Rattle.std.proofs.Common.{sym, arith}
+use Rattle.byvalue.proofs.Ready.{blocks}
+use Rattle.owner.proofs.Puts.{room_asks, room_below, room_stands, roomed_takes, roomed_refuses}
+use Rattle.owner.proofs.Orders.{order_range, none_placed, same_ne, whole, stopped, one_more}
 use Rattle.owner.proofs.order.Goals as goal
 
--- src/lib.rt:188:9
 pub returns-then-not-is_order : goal.returns-then-not-is_order
-returns-then-not-is_order c = ?
+returns-then-not-is_order c = rw c.refused.ensures (order_range _ _ _ _ _ (sym c.if-not-is_order.ensures))
 
--- src/lib.rt:194:9
 pub block_of-here-requires : goal.block_of-here-requires
-block_of-here-requires c = ?
+block_of-here-requires c = rw c.from-nb.ensures (blocks _ _ _ c.requires)
 
--- src/lib.rt:195:5
 pub loop-label-init : goal.loop-label-init
-loop-label-init c = ?
+loop-label-init c =
+    none_placed _ _ _ _ _ c.requires (sym c.if-not-is_order.ensures) _ (rw c.from-nb.ensures at c.block_of-here.ensures.0)
 
--- src/lib.rt:196:15
 pub room_for-requires-clause-sizes : goal.room_for-requires-clause-sizes
-room_for-requires-clause-sizes c = ?
+room_for-requires-clause-sizes c = room_asks c.loop-label.invariant.reads
 
--- src/lib.rt:199:17
 pub write_label-requires : goal.write_label-requires
-write_label-requires c = ?
+write_label-requires c =
+    let s = c.loop-label.invariant in
+    rw (c.from-ne.ensures, ← same_ne _ _ _ _ _ s) (room_stands s.reads _ (roomed_takes _ _ _ c.in-Ok.ensures).1)
 
--- src/lib.rt:200:17
 pub offset_bounds-t-here : goal.offset_bounds-t-here
-offset_bounds-t-here c = ?
+offset_bounds-t-here c =
+    omega (arith, room_below c.loop-label.invariant.reads _ (roomed_takes _ _ _ c.in-Ok.ensures).1)
 
--- src/lib.rt:200:17
 pub bounds-t-here : goal.bounds-t-here
-bounds-t-here c = ?
+bounds-t-here c = room_below c.loop-label.invariant.reads _ (roomed_takes _ _ _ c.in-Ok.ensures).1
 
--- src/lib.rt:204:17
 pub returns-in-Err : goal.returns-in-Err
-returns-in-Err c = ?
+returns-in-Err c =
+    rw c.placed.ensures (stopped _ _ _ _ _ c.loop-label.invariant c.loop-label-test.true _ (roomed_refuses _ _ _ c.in-Err.ensures))
 
--- src/lib.rt:195:5
 pub loop-label-preserved : goal.loop-label-preserved
-loop-label-preserved c = ?
+loop-label-preserved c =
+    let s = c.loop-label.invariant in
+    let r = roomed_takes _ _ _ c.in-Ok.ensures in
+    one_more _ _ _ _ _ s c.loop-label-test.true r.0
+    (record { room = r.1; entries = rw (c.from-ne.ensures, ← same_ne _ _ _ _ _ s) at c.write_label.ensures })
 
--- src/lib.rt:213:31
 pub overflow_sub-result : goal.overflow_sub-result
-overflow_sub-result c = ?
+overflow_sub-result c = omega (arith, c.loop-label.invariant.range)
 
--- src/lib.rt:183:1
 pub returns : goal.returns
-returns c = ?
+returns c = whole _ _ _ _ _ c.loop-label.invariant c.loop-label-test.false
