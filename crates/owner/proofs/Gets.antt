@@ -11,7 +11,7 @@ use Rattle.words.specs.declared.Refusal.TheVariants.{Empty}
 use Rattle.words.specs.declared.Answer.TheVariants.{Got, Refused}
 use Rattle.book.specs.Choice.{◌<ᵇ◌, ◌≡ᵇ◌}
 use Rattle.book.specs.Sizes.{Size}
-use Rattle.book.proofs.Choice.{and_second, lt→true, ge→false}
+use Rattle.book.proofs.Choice.{and_second}
 use Rattle.line.specs.declared.Block.{Block}
 use Rattle.line.specs.declared.Head.{Head}
 use Rattle.line.specs.Line.{Line, Spot, unused, size_of, get_at, record_of, entry_of, label_at, moves_on, taken_over, reach, read_at, get_step}

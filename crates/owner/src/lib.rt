@@ -106,11 +106,9 @@ fn may_put(h: &Head, current: Block, old: Block, a: u32) -> Result<(), Refusal>
 fn room_for(h: &Head, table: &[Block; 64], here: usize, a: u32) -> Result<Room, Refusal>
     requires sizes { (1 ≤ h.now.nb) × (h.now.nb ≤ 64) × (h.now.ne ≤ 64) × (h.now.p < 65536 * 64) }
     requires stands { here ≡ h.now.p % h.now.nb }
-    ensures {
-        let current = get_or table.now here unused in
+    ensures { let current = get_or table.now here unused in
         let old = get_or table.now ((here + 1) % h.now.nb) unused in
-        result ≡ judge (placeable (size_of h.now) h.now.p current.written h.now.k (is_busy old) a) (Ok (room_of (size_of h.now) h.now.p current)) (λ w. Err w)
-    }
+        result ≡ judge (placeable (size_of h.now) h.now.p current.written h.now.k (is_busy old) a) (Ok (room_of (size_of h.now) h.now.p current)) (λ w. Err w) }
 {
     let nb = u32::from(h.nb);
     let next = block_after(here, nb);
