@@ -1,4 +1,5 @@
-// The entries: block 0's places first, NE to a block.
+// The entries: block 0's places first, NE to a block. The numbers of a place come from a head, a turn and a record, so a
+// struct of the three would be made for the call alone.
 ghost use Rattle.std.specs.Prelude.{◌≡◌, ◌+◌, ◌*◌, ◌≤◌, ◌<◌, get_or, set};
 ghost use Rattle.byvalue.specs.Entries.{Stands};
 
@@ -7,7 +8,7 @@ fn entry(ne: u32, block: usize, place: u32) -> usize
     requires { (ne ≤ 64) × (block < 64) × (place < ne) }
     ensures { result ≡ block * ne + place }
 {
-    block * (ne as usize) + (place as usize)
+    block * ne as usize + place as usize
 }
 
 pub fn read_label(entries: &[u32], ne: u32, block: usize, place: u32) -> u32
