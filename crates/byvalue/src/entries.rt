@@ -1,5 +1,4 @@
-// The entries: block 0's places first, NE to a block. The numbers of a place come from a head, a turn and a record, so a
-// struct of the three would be made for the call alone.
+// The entries: block 0's places first, NE to a block.
 ghost use Rattle.std.specs.Prelude.{◌≡◌, ◌+◌, ◌*◌, ◌≤◌, ◌<◌, get_or, set};
 ghost use Rattle.byvalue.specs.Entries.{Stands};
 
