@@ -1,7 +1,7 @@
 #![tactic(auto)]
 
-// The line: its records, and what each call means on them. Definitions and theorems; of code the types, and the refusal
-// that a fault is.
+// The line: its records, and what each call means on them. Definitions and theorems; of code the types, a head's size, and
+// the refusal that a fault is.
 //
 // The records are numbers only, so that a portal lends its own memory. specs/Line.antt has the
 // steps, specs/Rules.antt the rules of a sound line in the paper's words, specs/Check.antt the check,
@@ -9,12 +9,16 @@
 // Beyond the demands, specs/FirstOut.antt says in which order labels come out, and specs/Clearing.antt
 // that nothing is ever stuck.
 ghost use Rattle.std.specs.Prelude.{◌≡◌};
+ghost use Rattle.line.specs.Line.{size_of};
 ghost use Rattle.line.specs.Check.{refusal_of};
 
+use book::Size;
 use words::{Answer, Refusal};
 
-// A desk: stage 0 is idle, 1 looked, 2 claimed, 3 fetched. An idle desk's turn and place are not read. The stage is a
-// number and not an enum: a portal lends the record through the C interface, with any number in it.
+// Desk, block and head are lent by a portal, and so laid out as the C interface has them, with any number in any field:
+// that is why a desk's stage is a number and no enum, and why a head has sixteen desks, whatever T is.
+
+// A desk: stage 0 is idle, 1 looked, 2 claimed, 3 fetched. An idle desk's turn and place are not read.
 #[repr(C)]
 #[derive(Clone, Copy, Debug, PartialEq, Eq)]
 pub struct Desk {
@@ -44,6 +48,19 @@ pub struct Head {
     pub desks: [Desk; 16],
 }
 
+impl Head {
+    // The three numbers that a line is opened with.
+    pub fn size(&self) -> Size
+        ensures { result ≡ size_of self.now }
+    {
+        Size {
+            nb: self.nb,
+            ne: self.ne,
+            t: self.t,
+        }
+    }
+}
+
 // Where a label goes: turn, block and place; and the record that the block has after it.
 #[derive(Clone, Copy, Debug, PartialEq, Eq)]
 pub struct Room {
@@ -62,7 +79,7 @@ pub struct Moved {
 }
 
 // What is wrong with a line: its numbers or lengths do not fit, or it breaks a rule: at which place, and the rule's
-// number. The place is a number, 64 for the head and else a block: so the C interface says it.
+// number. The place is a number, 64 for the head and else a block, as the C interface says it.
 #[derive(Clone, Copy, Debug, PartialEq, Eq)]
 pub enum Fault {
     Unfit,
@@ -81,7 +98,8 @@ impl From<Fault> for Refusal {
     }
 }
 
-// What the survey finds.
+// What the survey finds. The lowest is no Option: it is 64 where there is none, as the C interface says it and
+// `trailing_zeros` of the mask gives it.
 #[derive(Clone, Copy, Debug, PartialEq, Eq)]
 pub struct Findings {
     pub mask: u64,
