@@ -1,23 +1,33 @@
 -- What holds of the bytes that are read: a header is eight bytes, and the steps that are left behind the first i are
 -- the next one and those behind it.
-use mathlib.Core.Path.{◌≡◌, refl, sym, ap, ◌∙◌}
-use mathlib.Core.Bool.{Bool, true}
-use mathlib.Core.List.{List, [], ◌∷◌}
-use Prim.Native.Nat.{ℕ, zero, suc, ◌+◌, ◌-◌, ◌*◌, ◌%◌, ◌≤◌, ◌<◌}
+use Rattle.std.proofs.Common.{◌≡◌, refl, sym, ap, ◌∙◌, Bool, true, false, if◌then◌else◌, Some, None, List, [], ◌∷◌, ℕ, zero, suc, ◌+◌, ◌-◌, ◌*◌, ◌%◌, ◌≤◌, ◌<◌, length, arith}
 use native.Mathlib.Nat.{sub-zero}
-use native.Mathlib.Omega.{arith}
 use borrow.Author.Tests.{eqb-false, not-true}
 use lib.Dec.{T, leb, leb→le}
-use lib.ListN.{length}
 use Rattle.book.specs.Choice.{◌≡ᵇ◌}
+use Rattle.book.specs.declared.Size.{Size}
 use Rattle.book.specs.Steps.{Step}
 use Rattle.book.proofs.Choice.{and_first}
-use Rattle.schedule.specs.Bytes.{limit, header_bytes, step_bytes, most_steps, is_header, step_at, steps_from, whole_steps, steps_of, is_cut}
+use Rattle.schedule.specs.Bytes.{limit, header_bytes, step_bytes, most_steps, is_header, header, size_in, step_at, steps_from, whole_steps, steps_of, is_cut}
+
+told : (h : Bool) (x z : Size) → (if h then Some x else None) ≡ Some z → (h ≡ true) × (z ≡ x)
+told true x z e = (refl, cc)
+told false x z e = absurd (cc)
 
 module _ (bs : List ℕ) where
   pub header_long : (h : Bool) → h ≡ is_header bs → h ≡ true → header_bytes ≤ length bs
   unfolding is_header
   header_long h is t = let all : T (is_header bs) = rw (sym is ∙ t) tt in leb→le header_bytes (length bs) (and_first (leb header_bytes (length bs)) _ all)
+
+  -- a header that is read
+  module _ (z : Size) (e : header bs ≡ Some z) where
+    pub headed_size : z ≡ size_in bs
+    unfolding header
+    headed_size = (told (is_header bs) (size_in bs) z e).1
+
+    pub headed_long : header_bytes ≤ length bs
+    unfolding header
+    headed_long = header_long (is_header bs) refl (told (is_header bs) (size_in bs) z e).0
 
   -- ---- the steps one by one
 

@@ -1,15 +1,10 @@
 -- A schedule that is written is read back: its header, its numbers, its steps, and none of them cut short.
-use mathlib.Core.Path.{◌≡◌, refl, ap₂, subst, ◌∙◌}
-use mathlib.Core.Bool.{true, false}
-use mathlib.Core.List.{List, [], ◌∷◌, ◌++◌, append_assoc}
-use Prim.Native.Nat.{ℕ, ◌+◌, ◌-◌, ◌*◌, ◌%◌}
-use native.Mathlib.Omega.{arith}
-use lib.ListN.{length, length-append}
-use lib.Seq.{get_or-append-add}
-use Rattle.book.specs.Sizes.{Size}
+use Rattle.std.proofs.Common.{◌≡◌, refl, ap₂, subst, ◌∙◌, true, false, List, [], ◌∷◌, ◌++◌, append_assoc, ℕ, ◌+◌, ◌-◌, ◌*◌, ◌%◌, arith, length, length-append}
+use Rattle.schedule.proofs.Behind.{step_behind}
+use Rattle.book.specs.declared.Size.{Size}
 use Rattle.book.specs.Steps.{Step}
 use Rattle.book.proofs.Choice.{le→true}
-use Rattle.schedule.specs.Bytes.{header_bytes, step_bytes, byte_at, number_at, is_header, size_in, step_at, steps_from, whole_steps, steps_of, is_cut, bytes_in, bytes_of, header_of, bytes_of_all, schedule_of}
+use Rattle.schedule.specs.Bytes.{header_bytes, step_bytes, number_at, is_header, size_in, step_at, steps_from, whole_steps, steps_of, is_cut, bytes_in, bytes_of, header_of, bytes_of_all, schedule_of}
 
 -- ---- a step
 
@@ -17,21 +12,8 @@ use Rattle.schedule.specs.Bytes.{header_bytes, step_bytes, byte_at, number_at, i
 number_back : (n : ℕ) → number_at (bytes_in n) 0 ≡ n
 number_back n = omega arith
 
-module _ (front xs : List ℕ) where
-  -- what is read behind the front is read of the rest
-  byte_behind : (i k : ℕ) → i ≡ length front + k → byte_at (front ++ xs) i ≡ byte_at xs k
-  byte_behind i k e = rw e (get_or-append-add front xs k 0)
-
-  number_behind : (i k : ℕ) → i ≡ length front + k → number_at (front ++ xs) i ≡ number_at xs k
-  number_behind i k e =
-      rw (byte_behind i k e, byte_behind (i + 1) (k + 1) (omega arith), byte_behind (i + 2) (k + 2) (omega arith), byte_behind (i + 3) (k + 3) (omega arith)) refl
-
-  step_behind : step_at (front ++ xs) (length front) ≡ step_at xs 0
-  step_behind =
-      rw (byte_behind (length front) 0 (omega arith), number_behind (length front + 1) 1 refl, number_behind (length front + 5) 5 refl) refl
-
 step_back : (front : List ℕ) (s : Step) (rest : List ℕ) → step_at (front ++ (bytes_of s ++ rest)) (length front) ≡ s
-step_back front s rest = step_behind front (bytes_of s ++ rest) ∙ rw (number_back s.a, number_back s.b) refl
+step_back front s rest = step_behind front (bytes_of s ++ rest) (length front) 0 (omega arith) ∙ rw (number_back s.a, number_back s.b) refl
 
 steps_back : (front : List ℕ) (ss : List Step) → steps_from (front ++ bytes_of_all ss) (length ss) (length front) ≡ ss
 unfolding steps_from bytes_of_all

@@ -1,8 +1,8 @@
 -- What a schedule's bytes mean: its header, with the numbers of the line, its steps, and whether the last of them is
 -- cut short. And the other way: the bytes of a step, and of a schedule.
-use Rattle.std.specs.Prelude.{Bool, not, ◌&&◌, List, [], ◌∷◌, ◌++◌, ℕ, zero, suc, ◌+◌, ◌-◌, ◌*◌, ◌/◌, ◌%◌, length, get_or}
+use Rattle.std.specs.Prelude.{Bool, not, ◌&&◌, List, [], ◌∷◌, ◌++◌, ℕ, zero, suc, ◌+◌, ◌-◌, ◌*◌, ◌/◌, ◌%◌, length, get_or, Option, Some, None, if◌then◌else◌}
 use Rattle.book.specs.Choice.{◌<ᵇ◌, ◌≤ᵇ◌, ◌≡ᵇ◌}
-use Rattle.book.specs.Sizes.{Size}
+use Rattle.book.specs.declared.Size.{Size}
 use Rattle.book.specs.Steps.{Step}
 
 -- the longest schedule
@@ -40,6 +40,10 @@ module _ (bs : List ℕ) where
 
   abbrev pub size_in : Size
   size_in = record { nb = byte_at 5; ne = byte_at 6; t = byte_at 7 }
+
+  -- the numbers, where the header is there
+  unfoldable pub header : Option Size
+  header = if is_header then Some size_in else None
 
   abbrev pub number_at : ℕ → ℕ
   number_at i = number_in (byte_at i) (byte_at (i + 1)) (byte_at (i + 2)) (byte_at (i + 3))

@@ -16,7 +16,7 @@ pub const STEP: usize = 9;
 pub const STEPS: usize = (LIMIT - HEADER) / STEP;
 
 // Every message from a press is one step.
-#[derive(Clone, Copy)]
+#[derive(Clone, Copy, Debug, PartialEq, Eq)]
 pub struct Message {
     pub code: u8,
     pub a: u32,
