@@ -2,16 +2,8 @@
 -- check asks its questions in order, and a walk along them ends at the first that is broken, or all are obeyed and the
 -- line is sound. So what the check answers is one law, `checked`, and three statements about it are read off; `names` is its
 -- converse, that the first rule broken is the one named.
-use Rattle.std.specs.Prelude.{Ok, Err}
-use mathlib.Core.Path.{◌≡◌, refl, sym, ap, ap₂, subst, ◌∙◌}
-use mathlib.Core.Logic.{◌≢◌}
-use mathlib.Core.Bool.{not, ◌&&◌}
-use mathlib.Core.List.{List, [], ◌∷◌, ◌++◌, append-nil}
-use Prim.Native.Nat.{ℕ, zero, suc, ◌+◌, ◌-◌, ◌≤◌, ◌<◌}
-use native.Mathlib.Omega.{arith}
-use lib.Dec.{T, T_not, leb, eqb}
-use lib.ListN.{get_or, drop}
-use lib.Seq.{get_or-drop, append_snoc}
+use Rattle.std.proofs.Common.{◌≡◌, ℕ, zero, suc, ◌+◌, ◌-◌, ◌<◌, ◌≤◌, not, ◌&&◌, T, eqb, leb, ◌≢◌, List, [], ◌∷◌, ◌++◌, get_or, drop, Ok, Err, sym, refl, ap, ◌∙◌, subst, ap₂, append-nil, arith, T_not, get_or-drop}
+use Rattle.std.proofs.Math.Seq.{append_snoc}
 use Rattle.book.specs.Total.{any, all}
 use Rattle.book.specs.Steps.{Hold, Desk, idle, looked, holding, claimed_at, with_fetched}
 use Rattle.book.proofs.Choice.{by_test, choose_true, choose_false, by_order, and_first}
@@ -34,7 +26,7 @@ idle_is (looked s) t = absurd t
 idle_is (holding h) t = absurd t
 
 idle_told : (x : Desk Spot) → Tells (is_idle x) (x ≡ idle)
-idle_told x = record { to = idle_is x; from = λ e. subst (λ (y : Desk Spot). T (is_idle y)) (sym e) tt }
+idle_told x = record { to = idle_is x; from = λ e. rw e tt }
 
 spot_told : (x s : Spot) → Tells (eqb x.turn s.turn && eqb x.place s.place) (x ≡ s)
 spot_told x s =

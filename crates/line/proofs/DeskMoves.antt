@@ -1,18 +1,14 @@
 -- What a desk's step leaves of the line. The step writes one desk and one record back (`with_moved`); where it changed neither, the
 -- line is as it was. So each of the four steps is told by what it changes.
-use Rattle.std.specs.Prelude.{if◌then◌else◌, Ok, Err}
-use mathlib.Core.Path.{◌≡◌, refl}
-use mathlib.Core.Bool.{Bool, not}
-use Prim.Native.Nat.{ℕ}
-use lib.ListN.{get_or, set}
-use lib.Seq.{set-get_or}
+use Rattle.std.proofs.Common.{◌≡◌, ℕ, Bool, not, get_or, set, if◌then◌else◌, Ok, Err, refl}
+use Rattle.std.proofs.Math.Seq.{set-get_or}
 use Rattle.words.specs.declared.Answer.TheVariants.{Took, Seen, Claimed, Done, Refused}
 use Rattle.words.specs.declared.Refusal.TheVariants.{Lost}
 use Rattle.book.specs.Choice.{◌≡ᵇ◌}
 use Rattle.book.specs.Sizes.{Size, block_of, current_turn}
 use Rattle.book.specs.declared.DeskStep.TheVariants.{Look as look, Claim as claim, Fetch as fetch, Finish as finish}
 use Rattle.book.specs.Steps.{Hold, Desk, idle, looked, holding, claimed_at, with_fetched}
-use Rattle.book.specs.Verdicts.{Verdict, takes, refuses, judge, lookable}
+use Rattle.book.specs.Verdicts.{Verdict, judge, lookable}
 use Rattle.book.proofs.Choice.{cases, T→true, not→false}
 use Rattle.line.specs.Line.{Line, Head, Block, Spot, Outcome, numbers_of, says, refuse, with_desk, with_head, unused, one_claimed, one_finished}
 use Rattle.line.specs.Line.{record_of, label_at, moved, look_of, wins, claim_of, moved_by, with_moved, desk_does}

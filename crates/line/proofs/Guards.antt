@@ -2,14 +2,8 @@
 -- whether the numbers and lengths fit. For the other way round, that a step on a sound line answers neither UNFIT nor
 -- DAMAGED, each step is followed through its tests once: every refusal in them has a later number. At the end, what is
 -- cited of a step and an order on a sound line.
-use Rattle.std.specs.Prelude.{Ok, Err}
-use mathlib.Core.Path.{◌≡◌, refl, sym, ap, subst}
-use mathlib.Core.Bool.{Bool, true, not, ◌&&◌}
-use mathlib.Core.List.{[]}
-use Prim.Native.Nat.{ℕ, zero, suc, ◌+◌, ◌-◌}
-use native.Mathlib.Omega.{arith}
-use lib.Dec.{T, not_T}
-use lib.ListN.{get_or}
+use Rattle.std.proofs.Common.{◌≡◌, ℕ, zero, suc, ◌+◌, ◌-◌, Bool, true, not, ◌&&◌, T, [], get_or, Ok, Err, sym, refl, ap, subst}
+use Rattle.std.proofs.Math.Dec.{not_T}
 use Rattle.words.specs.declared.Answer.{Answer}
 use Rattle.words.specs.declared.Answer.TheVariants.{Refused}
 use Rattle.words.specs.declared.Refusal.TheVariants.{Unfit, Damaged, Stage}
@@ -50,7 +44,7 @@ pub later_damaged : (o : Outcome) (n : ℕ) → Later o → o.answer ≡ Refused
 later_damaged o n h e = subst (λ (a : Answer). T (is_later a)) e h
 
 unfit_damaged : Refused Unfit 0 ≡ Refused Damaged 0 → ⊥
-unfit_damaged e = let n = ap (λ (a : Answer). (said a).number) e in omega arith
+unfit_damaged e = cc
 
 -- ---- the verdicts, their refusals given with the value n
 

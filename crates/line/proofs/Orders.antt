@@ -2,13 +2,7 @@
 -- Of its puts all are taken, or one is the first that is refused (`first`). After the labels placed so far an order goes on as a
 -- shorter one (`goes_on`), so in either case its outcome is known: WHOLE, or that refusal with the number placed. `Said` has for each
 -- answer when it is given and which line is left: one way `Ordered` is read off the answer, the other way the answer is computed.
-use Rattle.std.specs.Prelude.{Ok, Err}
-use mathlib.Core.Path.{◌≡◌, refl, subst, ◌∙◌}
-use mathlib.Core.Logic.{◌≢◌, ◌⊎◌, inl, inr, ⊎_elim}
-use Prim.Native.Nat.{ℕ, zero, suc, ◌+◌, ◌-◌, ◌<◌}
-use native.Mathlib.Nat.{add-zero, zero-add, suc-add}
-use native.Mathlib.Omega.{arith}
-use lib.Dec.{T}
+use Rattle.std.proofs.Common.{◌≡◌, ℕ, zero, suc, ◌+◌, ◌-◌, ◌<◌, T, ◌≢◌, ◌⊎◌, Ok, Err, refl, ◌∙◌, subst, inl, inr, ⊎_elim, add-zero, suc-add, zero-add, arith}
 use Rattle.words.specs.declared.Answer.{Answer}
 use Rattle.words.specs.declared.Answer.TheVariants.{Whole, Refused}
 use Rattle.words.specs.declared.Refusal.{Refusal}

@@ -2,19 +2,12 @@
 -- the block of turn Q = P + 1 - NB, if there is one. The put is not FULL, so K is above Q and stays in the window; not BUSY, so
 -- by rule 7 nobody holds a spot of Q, and every spot that is held stays current; a look at Q is no longer asked about written.
 -- Nobody holds a spot of P + 1, since a turn that is held is at most P. Not WORN says that P + 1 is below 65,536 x NB.
-use Rattle.std.specs.Prelude.{Ok, Err}
-use mathlib.Core.Path.{◌≡◌, refl, ap, ◌∙◌, subst}
-use mathlib.Core.Logic.{◌≢◌}
-use mathlib.Core.Bool.{not}
-use Prim.Native.Nat.{ℕ, zero, suc, ◌+◌, ◌-◌, ◌*◌, ◌≤◌, ◌<◌}
-use native.Mathlib.Nat.{div-lt_iff_lt-mul}
-use native.Mathlib.Omega.{arith}
-use lib.Dec.{ltb→lt, nltb→le, nleb→lt, eqb→eq}
-use lib.ListN.{set, length-set}
+use Rattle.std.proofs.Common.{◌≡◌, ℕ, zero, suc, ◌+◌, ◌-◌, ◌*◌, ◌<◌, ◌≤◌, not, ◌≢◌, set, Ok, Err, refl, ap, ◌∙◌, subst, div-lt_iff_lt-mul, arith, eqb→eq, ltb→lt, nltb→le, length-set}
+use Rattle.std.proofs.Math.Dec.{nleb→lt}
 use Rattle.book.specs.Choice.{◌<ᵇ◌, ◌≤ᵇ◌, ◌≡ᵇ◌}
 use Rattle.book.specs.Sizes.{Size, is_label, is_order, block_of, round_of}
 use Rattle.book.specs.Steps.{idle}
-use Rattle.book.specs.Verdicts.{Verdict, takes, refuses, startable, placeable}
+use Rattle.book.specs.Verdicts.{Verdict, takes, startable, placeable}
 use Rattle.book.proofs.Choice.{by_test, by_verdict, cases, T→true, not→false, neq_test}
 use Rattle.book.proofs.Total.{total_zero, total_none}
 use Rattle.line.specs.Line.{Line, LentDesk, Block, Spot, Outcome, numbers_of, desk_of, desk_at, size_of, one_written, entry_of, size_in, here}

@@ -1,16 +1,9 @@
 -- The survey tells the truth: bit b of its mask is an idle desk's look at block b, its count is the ones of the mask, and
 -- its lowest is the lowest of them, or 64. First the laws of a mask of Booleans: a Boolean in front doubles the mask and puts
 -- its bit in. Then the Booleans of the survey are the looks at the blocks, and past the last block a look is refused too.
-use Rattle.std.specs.Prelude.{Ok, Err}
-use mathlib.Core.Path.{◌≡◌, refl, sym, ap, ◌∙◌}
-use mathlib.Core.Logic.{◌≢◌, ◌↔◌}
-use mathlib.Core.Bool.{Bool, true, false, not, ◌&&◌}
-use mathlib.Core.List.{List, [], ◌∷◌}
-use Prim.Native.Nat.{ℕ, zero, suc, ◌+◌, ◌-◌, ◌*◌, ◌/◌, ◌^◌, ◌≤◌, ◌<◌}
-use native.Mathlib.Nat.{zero-add, add-zero, add-suc, suc-add, sub-zero, mul_comm, pow-suc, zero-div, div-div-eq-div-mul}
-use native.Mathlib.Omega.{arith}
-use lib.Dec.{T, eqb}
-use lib.ListN.{length, get_or}
+use Rattle.std.proofs.Common.{◌≡◌, ℕ, zero, suc, ◌+◌, ◌-◌, ◌*◌, ◌/◌, ◌^◌, ◌<◌, ◌≤◌, Bool, true, false, not, ◌&&◌, T, eqb, ◌≢◌, ◌↔◌, List, [], ◌∷◌, length, get_or, Ok, Err, sym, refl, ap, ◌∙◌, add-zero, add-suc, mul_comm, suc-add, pow-suc, zero-add, arith, le-leb}
+use Rattle.std.proofs.lemmas.Bool.{lt-leb}
+use Rattle.std.proofs.Math.Nat.{sub-zero, zero-div, div-div-eq-div-mul}
 use Rattle.words.specs.declared.Answer.{Answer}
 use Rattle.words.specs.declared.Answer.TheVariants.{Put, Got, Took, Whole, Seen, Claimed, Done, Refused}
 use Rattle.words.specs.declared.Refusal.{Refusal}
@@ -19,8 +12,8 @@ use Rattle.book.specs.Sizes.{fits}
 use Rattle.book.specs.declared.DeskStep.TheVariants.{Look as look}
 use Rattle.book.specs.declared.Deed.TheVariants.{Desk as desk}
 use Rattle.book.specs.Steps.{Step, idle, decode}
-use Rattle.book.specs.Verdicts.{Verdict, takes, refuses, judge, admitted}
-use Rattle.book.proofs.Choice.{by_test, choose_true, choose_false, and_first, le→true, gt→false}
+use Rattle.book.specs.Verdicts.{Verdict, judge, admitted}
+use Rattle.book.proofs.Choice.{by_test, choose_true, choose_false, and_first}
 use Rattle.line.specs.Line.{Line, Spot, Outcome, size_of, desk_at, desk_step, does, size_in}
 use Rattle.line.specs.Rules.{Sound}
 use Rattle.line.specs.Check.{fit}
@@ -134,7 +127,7 @@ module _ (l : Line) where
   -- every desk of the line sees the same
   admitted_same : (d e b : ℕ) → d < l.head.t → e < l.head.t → admitted (size_in l) {A = Spot} d (look b) idle ≡ admitted (size_in l) {A = Spot} e (look b) idle
   unfolding admitted
-  admitted_same d e b h k = rw (gt→false l.head.t d h, gt→false l.head.t e k) refl
+  admitted_same d e b h k = rw (lt-leb l.head.t d h, lt-leb l.head.t e k) refl
 
   look_same : (d e b : ℕ) → (look_step (size_in l) l d b).answer ≡ (look_step (size_in l) l e b).answer
   unfolding look_step
@@ -147,7 +140,7 @@ module _ (l : Line) where
   -- and none sees a block that is not there
   seen_past : (d b : ℕ) → d < l.head.t → l.head.nb ≤ b → seen d b ≡ false
   unfolding desk_step admitted
-  seen_past d b h k = rw (gt→false l.head.t d h, le→true l.head.nb b k) refl
+  seen_past d b h k = rw (lt-leb l.head.t d h, le-leb l.head.nb b k) refl
 
   seen_at : 0 < l.head.t → (n i b : ℕ) → i + n ≡ l.head.nb → get_or (seen_from l i n) b false ≡ seen 0 (i + b)
   unfolding seen_from

@@ -1,12 +1,8 @@
 -- Entries are not checked: no rule reads one, and no look does.
-use Rattle.std.specs.Prelude.{Ok, Err}
-use mathlib.Core.Path.{◌≡◌, refl, ap, ap₂}
-use mathlib.Core.Bool.{Bool}
-use mathlib.Core.List.{List, [], ◌∷◌}
-use Prim.Native.Nat.{ℕ, zero, suc}
+use Rattle.std.proofs.Common.{◌≡◌, ℕ, zero, suc, Bool, List, [], ◌∷◌, Ok, Err, refl, ap, ap₂}
 use Rattle.words.specs.declared.Answer.{Answer}
 use Rattle.book.specs.declared.DeskStep.TheVariants.{Look as look}
-use Rattle.book.specs.Verdicts.{Verdict, takes, refuses, judge, admitted}
+use Rattle.book.specs.Verdicts.{Verdict, judge, admitted}
 use Rattle.book.specs.Steps.{idle}
 use Rattle.line.specs.Line.{Line, Outcome, size_of, refuse, moved_by, desk_does, desk_step}
 use Rattle.line.specs.Rules.{Rule, rule1, rule2, rule3, rule4, rule5, rule6, rule7, RuleAt, in_order}

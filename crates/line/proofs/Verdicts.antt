@@ -1,11 +1,8 @@
 -- Laws of the verdicts that line and book share: what follows from one verdict on both sides, and what a verdict that
 -- takes says. A test is asked only where it matters, and so two tests that agree there give one verdict: whether a row
 -- waits, of a current turn above K; BUSY, of the turn that stands NB before the one to be started.
-use Rattle.std.specs.Prelude.{Ok, Err}
-use mathlib.Core.Path.{◌≡◌, refl, subst}
-use mathlib.Core.Bool.{Bool, ◌&&◌}
-use Prim.Native.Nat.{ℕ, ◌+◌, ◌≤◌, ◌<◌}
-use lib.Dec.{ltb, leb, nltb→le, leb→le, nleb→lt}
+use Rattle.std.proofs.Common.{◌≡◌, ℕ, ◌+◌, ◌<◌, ◌≤◌, Bool, ◌&&◌, ltb, leb, Ok, Err, refl, subst, leb→le, nltb→le}
+use Rattle.std.proofs.Math.Dec.{nleb→lt}
 use Rattle.words.specs.declared.Refusal.{Refusal}
 use Rattle.words.specs.declared.Refusal.TheVariants.{Nodesk, Noblock, Owned, Nothing}
 use Rattle.book.specs.Sizes.{Size, current_turn, is_owned}
@@ -26,12 +23,8 @@ by_verdict₂ P v u {x} {f} {y} {h} e g r = subst (λ (c : Verdict). P (judge v 
 
 -- ---- a refusal does not take
 
-abbrev Refuses : Verdict → Type 0
-Refuses (Ok u) = ⊥
-Refuses (Err w) = Unit {0}
-
 pub refuses_not : (w : Refusal) → refuses w ≡ takes → ⊥
-refuses_not w e = subst Refuses e tt
+refuses_not w e = cc
 
 module _ (z : Size) where
   -- ---- a desk's step

@@ -13,7 +13,7 @@ use Rattle.line.specs.Line.{Line, Outcome, says, numbers_of, opened}
 use Rattle.line.specs.Calls.{Opened, open·line, open·unfit, opens, step, orders, answers, after}
 use Rattle.line.specs.Check.{sound, unfit, broken}
 use Rattle.line.specs.Numbers.{opening_said, check_said, survey_said}
-use Rattle.line.specs.Survey.{Surveyed, surveyed, survey·unfit, survey·damaged, Findings, survey}
+use Rattle.line.specs.Survey.{Surveyed, surveyed, survey·unfit, survey·damaged, survey}
 use Rattle.line.specs.Samples.{claimed, fetched, size, spot, fresh, started, middle, read, won, ends, stolen, five, lengths, short}
 use Rattle.line.specs.Samples.{with_p, with_k, with_reading, with_desk, with_stage, with_round, with_written, with_claimed, with_finished, with_entry}
 

@@ -4,9 +4,9 @@
 use Rattle.std.specs.Prelude.{ℕ, Ok, Err}
 use Rattle.words.specs.declared.Refusal.{Refusal}
 use Rattle.words.specs.Words.{refusal}
-use Rattle.line.specs.Check.{Fault, Misfit, Broken, Checked, refusal_of}
+use Rattle.line.specs.Check.{Misfit, Broken, Checked, refusal_of}
 use Rattle.line.specs.Calls.{Opening}
-use Rattle.line.specs.Survey.{Surveyed, Findings, found}
+use Rattle.line.specs.Survey.{Surveyed, found}
 
 abbrev number : Refusal → ℕ
 number w = (refusal w).0

@@ -2,19 +2,18 @@
 use Rattle.std.specs.Prelude.{if◌then◌else◌}
 use mathlib.Core.Path.{◌≡◌, refl, sym, ap, ap₂, subst, ◌∙◌}
 use mathlib.Core.Logic.{◌≢◌}
-use mathlib.Core.Bool.{Bool, true, false, not, ◌&&◌, ◌||◌}
+use mathlib.Core.Bool.{Bool, true, false, ◌&&◌, ◌||◌}
 use mathlib.Core.List.{List, [], ◌∷◌}
 use Prim.Native.Nat.{ℕ, zero, suc, ◌<◌}
 use native.Mathlib.Omega.{arith}
-use lib.Dec.{T, leb, ltb, eqb}
+use lib.Dec.{T, leb, eqb}
 use borrow.Author.Tests.{ne_eqb, lt-leb}
 use Rattle.book.specs.Total.{any}
 use Rattle.book.specs.Steps.{Hold, Desk, idle, looked, holding, claimed_at, with_fetched}
 use Rattle.book.proofs.Choice.{by_test, and_false}
-use Rattle.line.specs.declared.Block.{Block}
 use Rattle.line.specs.declared.Desk.{Desk as LentDesk}
 use Rattle.line.specs.Line.{Spot, desk_of, spot_of}
-use Rattle.line.specs.Tests.{desk_obeys, clashes, holds_at, is_idle, is_recent}
+use Rattle.line.specs.Tests.{clashes, holds_at, is_idle}
 use Rattle.rules.specs.Holders.{held_turn, is_holding, no_turn}
 use Rattle.line.specs.Rules.{held_in}
 

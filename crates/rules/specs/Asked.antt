@@ -1,5 +1,5 @@
 -- The rules asked in their order, over what the code reads of them: the head's, and those of one block.
-use Rattle.std.specs.Prelude.{Bool, List, ℕ, ◌-◌, ◌%◌, ◌==◌, count_by, if◌then◌else◌}
+use Rattle.std.specs.Prelude.{List, ℕ, ◌-◌, ◌%◌, ◌==◌, count_by, if◌then◌else◌}
 use Rattle.book.specs.Choice.{◌≤ᵇ◌}
 use Rattle.line.specs.declared.Block.{Block}
 use Rattle.line.specs.declared.Head.{Head}

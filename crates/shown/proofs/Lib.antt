@@ -1,5 +1,6 @@
+pub mod Ahead
 pub mod Numbered
 pub mod Lengths
-pub mod Rest
+pub mod Parts
 pub mod Outcomes
 pub mod Cases

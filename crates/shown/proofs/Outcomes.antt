@@ -1,50 +1,70 @@
--- The whole schedule: which of the tests decides, the text of its parts, and that the promise allows one outcome only.
-use Rattle.std.specs.Prelude.{if◌then◌else◌}
-use mathlib.Core.Path.{◌≡◌, refl, sym, ap, ap₂, subst, ◌∙◌}
-use mathlib.Core.Bool.{Bool, true, false}
-use mathlib.Core.List.{List, [], ◌∷◌, ◌++◌}
-use Prim.Native.Nat.{ℕ, ◌≤◌}
-use native.Mathlib.Omega.{arith}
-use lib.ListN.{length, drop, length-append}
+-- What the promise allows: one outcome only, and a text that lies within its room.
+use Rattle.std.proofs.Common.{◌≡◌, refl, sym, ap, ap₂, subst, ◌∙◌, Bool, true, false, if◌then◌else◌, List, ◌++◌, ℕ, ◌≤◌, ◌<◌, length, drop, arith, length-append, Some, Result, Ok, Err}
+use borrow.Author.Tests.{ltb-false}
 use Rattle.book.specs.Sizes.{fits}
-use Rattle.schedule.specs.Bytes.{is_long, is_header, byte_at, size_in, steps_of}
-use Rattle.printing.specs.Writes.{Writes}
-use Rattle.printing.proofs.Stores.{writes_more, front}
-use Rattle.shown.specs.declared.Shown.{Shown}
-use Rattle.shown.specs.declared.Shown.TheVariants.{Text, Long, Header, Unfit}
-use Rattle.shown.specs.Shown.{line_text, steps_text, cut_text, size_text, text, outcome}
+use Rattle.book.specs.declared.Size.{Size}
+use Rattle.schedule.specs.Bytes.{limit, byte_at, is_long, is_header, header, size_in}
+use Rattle.printing.specs.declared.Page.{Page}
+use Rattle.printing.specs.Page.{Wrote}
+use Rattle.printing.proofs.Stores.{front}
+use Rattle.shown.specs.declared.Unshown.{Unshown}
+use Rattle.shown.specs.declared.Unshown.TheVariants.{Long, Header, Unfit}
+use Rattle.shown.specs.Shown.{Shown, text, played, outcome}
+use Rattle.shown.proofs.Lengths.{text_short}
 
--- ---- the parts, one behind the other
+-- ---- what is refused, and what is played
 
-pub text_written : (bs xs : List ℕ) (p q r : ℕ) (o o₁ o₂ o₃ : List ℕ) → xs ≡ line_text "size" (byte_at bs 5 ∷ byte_at bs 6 ∷ byte_at bs 7 ∷ []) → Writes 0 xs o p o₁ → Writes p (steps_text (steps_of bs)) o₁ q o₂ → Writes q (cut_text bs) o₂ r o₃
-    → Writes 0 (text bs) o r o₃
-unfolding text size_text
-text_written bs xs p q r o o₁ o₂ o₃ e w v u =
-    writes_more 0 p r (size_text bs) (steps_text (steps_of bs) ++ cut_text bs) o o₁ o₃ (subst (λ (l : List ℕ). Writes 0 l o p o₁) e w)
-    (writes_more p q r (steps_text (steps_of bs)) (cut_text bs) o₁ o₂ o₃ v u)
+module _ (before : List ℕ) (long headed fit : Bool) (size : Size) (shown : Shown × List ℕ) where
+  tested : Result Size Unshown
+  tested = if long then Err Long else if headed then (if fit then Ok size else Err Unfit) else Err Header
 
--- ---- the tests
+  told : Shown × List ℕ
+  told = if long then (Err Long, before) else if headed then (if fit then shown else (Err Unfit, before)) else (Err Header, before)
 
-module _ (bs before : List ℕ) (l : Bool) (is-long : l ≡ is_long bs) where
-  pub long_outcome : l ≡ true → (Long, before) ≡ outcome bs before
-  unfolding outcome
-  long_outcome t = rw (← is-long, t) refl
+refused_by : (before : List ℕ) (long headed fit : Bool) (size : Size) (shown : Shown × List ℕ) (w : Unshown) → Err w ≡ tested before long headed fit size shown
+    → (Err w, before) ≡ told before long headed fit size shown
+unfolding tested told
+refused_by before true headed fit size shown w e = cc
+refused_by before false true true size shown w e = absurd (cc)
+refused_by before false true false size shown w e = cc
+refused_by before false false fit size shown w e = cc
 
-  module _ (h : Bool) (is-header : h ≡ is_header bs) (short : l ≡ false) where
-    pub header_outcome : h ≡ false → (Header, before) ≡ outcome bs before
-    unfolding outcome
-    header_outcome t = rw (← is-long, short, ← is-header, t) refl
+record Played (z size : Size) (long headed : Bool) (shown all : Shown × List ℕ) : Type 0 where
+  is_size : z ≡ size
+  is_short : long ≡ false
+  is_headed : headed ≡ true
+  is_shown : shown ≡ all
 
-    module _ (f : Bool) (is_fit : f ≡ fits (size_in bs)) (headed : h ≡ true) where
-      pub unfit_outcome : f ≡ false → (Unfit, before) ≡ outcome bs before
-      unfolding outcome
-      unfit_outcome t = rw (← is-long, short, ← is-header, headed, ← is_fit, t) refl
+played_by : (before : List ℕ) (long headed fit : Bool) (size : Size) (shown : Shown × List ℕ) (z : Size) → Ok z ≡ tested before long headed fit size shown
+    → Played z size long headed shown (told before long headed fit size shown)
+unfolding tested told
+played_by before true headed fit size shown z e = absurd (cc)
+played_by before false true true size shown z e = record { is_size = cc; is_short = refl; is_headed = refl; is_shown = refl }
+played_by before false true false size shown z e = absurd (cc)
+played_by before false false fit size shown z e = absurd (cc)
 
-      pub text_outcome : (r : ℕ) (after : List ℕ) → f ≡ true → Writes 0 (text bs) before r after → (Text r, after) ≡ outcome bs before
-      unfolding outcome
-      text_outcome r after t w =
-          let g = front (text bs) before after r w in
-          rw (← is-long, short, ← is-header, headed, ← is_fit, t) (ap₂ (λ (n : ℕ) (x : List ℕ). (Text n, x)) g.0 g.1)
+module _ (bs before : List ℕ) where
+  pub refused_outcome : (w : Unshown) → Err w ≡ played bs → (Err w, before) ≡ outcome bs before
+  unfolding played outcome tested told
+  refused_outcome w e = refused_by before (is_long bs) (is_header bs) (fits (size_in bs)) (size_in bs) (Ok (length (text bs)), text bs ++ drop (length (text bs)) before) w e
+
+  module _ (z : Size) (e : Ok z ≡ played bs) where
+    played_all : Played z (size_in bs) (is_long bs) (is_header bs) (Ok (length (text bs)), text bs ++ drop (length (text bs)) before) (outcome bs before)
+    unfolding played outcome tested told
+    played_all = played_by before (is_long bs) (is_header bs) (fits (size_in bs)) (size_in bs) (Ok (length (text bs)), text bs ++ drop (length (text bs)) before) z e
+
+    pub played_headed : header bs ≡ Some z
+    unfolding header
+    played_headed = let p = played_all in rw (p.is_headed, p.is_size) refl
+
+    pub played_room : ((k : ℕ) → byte_at bs k < 256) → length (text bs) ≤ 262144
+    played_room h = text_short bs h (let s = played_all.is_short in omega (arith, ltb-false limit (length bs)))
+
+    pub text_outcome : (p q : Page) → p.len ≡ 0 → p.room.now ≡ before → Wrote (text bs) p q → (Ok q.len, q.room.now) ≡ outcome bs before
+    text_outcome p q none lent w =
+        let v = rw (none, lent) at w.writes in
+        let f = front (text bs) before q.room.now q.len v in
+        ap₂ (λ (n : ℕ) (l : List ℕ). (Ok n, l)) f.0 f.1 ∙ played_all.is_shown
 
 -- ---- any two outcomes that the promise allows are equal
 
@@ -54,26 +74,26 @@ text_unique bs before r s after behind p q = let e = p ∙ sym q in (ap (λ x. x
 -- ---- for a caller, who writes the front
 
 record Within (p : Shown × List ℕ) : Type 0 where
-  most : (n : ℕ) → p.0 ≡ Text n → n ≤ length p.1
+  most : (n : ℕ) → p.0 ≡ Ok n → n ≤ length p.1
 
 either : (b : Bool) {x y : Shown × List ℕ} → Within x → Within y → Within (if b then x else y)
 either true h g = h
 either false h g = g
 
-front_within : (t rest : List ℕ) → Within (Text (length t), t ++ rest)
+front_within : (t rest : List ℕ) → Within (Ok (length t), t ++ rest)
 front_within t rest = record { most = λ n e. let k : n ≡ length t = cc in omega (arith, length-append t rest) }
 
 -- no text, and so no length of one
-none_within : (before : List ℕ) (s : Shown) → ((n : ℕ) → s ≡ Text n → ⊥) → Within (s, before)
-none_within before s h = record { most = λ n e. absurd (h n e) }
+none_within : (before : List ℕ) (w : Unshown) → Within (Err w, before)
+none_within before w = record { most = λ n e. absurd (cc) }
 
 outcome_within : (bs before : List ℕ) → Within (outcome bs before)
 unfolding outcome
 outcome_within bs before =
-    either (is_long bs) (none_within before Long (λ n e. let z : ◌≡◌ {A = ℕ} 0 1 = cc in omega arith))
+    either (is_long bs) (none_within before Long)
     (either (is_header bs)
-    (either (fits (size_in bs)) (front_within (text bs) (drop (length (text bs)) before)) (none_within before Unfit (λ n e. let z : ◌≡◌ {A = ℕ} 0 1 = cc in omega arith)))
-    (none_within before Header (λ n e. let z : ◌≡◌ {A = ℕ} 0 1 = cc in omega arith)))
+    (either (fits (size_in bs)) (front_within (text bs) (drop (length (text bs)) before)) (none_within before Unfit))
+    (none_within before Header))
 
-pub text_room : (bs before after : List ℕ) (n : ℕ) (r : Shown) → (r, after) ≡ outcome bs before → r ≡ Text n → n ≤ length after
+pub text_room : (bs before after : List ℕ) (n : ℕ) (r : Shown) → (r, after) ≡ outcome bs before → r ≡ Ok n → n ≤ length after
 text_room bs before after n r e f = (subst Within (sym e) (outcome_within bs before)).most n f

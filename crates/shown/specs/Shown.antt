@@ -1,15 +1,15 @@
 -- The text of a schedule: a line for the header, a line for each step, and the bytes of a step that is cut short. A step
 -- whose ignored numbers are not 0 is shown by its code, so that nothing is lost.
-use Rattle.std.specs.Prelude.{◌&&◌, List, [], ◌∷◌, ◌++◌, ℕ, ◌+◌, ◌-◌, ◌*◌, length, drop, if◌then◌else◌}
+use Rattle.std.specs.Prelude.{◌&&◌, List, [], ◌∷◌, ◌++◌, ℕ, ◌+◌, ◌-◌, ◌*◌, length, drop, codes, Result, Ok, Err, if◌then◌else◌}
 use Prim.Native.String.{String}
-use Rattle.words.specs.Words.{letters}
 use Rattle.book.specs.Choice.{◌≡ᵇ◌}
 use Rattle.book.specs.Sizes.{within, fits}
+use Rattle.book.specs.declared.Size.{Size}
 use Rattle.book.specs.Steps.{Step}
 use Rattle.schedule.specs.Bytes.{header_bytes, step_bytes, is_long, is_header, size_in, whole_steps, steps_of, is_cut}
 use Rattle.printing.specs.Text.{space, newline, decimal}
-use Rattle.shown.specs.declared.Shown.{Shown}
-use Rattle.shown.specs.declared.Shown.TheVariants.{Text, Long, Header, Unfit}
+use Rattle.shown.specs.declared.Unshown.{Unshown}
+use Rattle.shown.specs.declared.Unshown.TheVariants.{Long, Header, Unfit}
 
 -- ---- a line: a word, and numbers behind it
 
@@ -17,8 +17,11 @@ unfoldable pub numbers_text : List ℕ → List ℕ
 numbers_text [] = newline ∷ []
 numbers_text (n ∷ ns) = space ∷ (decimal n ++ numbers_text ns)
 
+abbrev pub line_of : List ℕ → List ℕ → List ℕ
+line_of word ns = word ++ numbers_text ns
+
 abbrev pub line_text : String → List ℕ → List ℕ
-line_text w ns = letters w ++ numbers_text ns
+line_text w ns = line_of (codes w) ns
 
 unfoldable pub step_text : Step → List ℕ
 step_text s =
@@ -54,10 +57,21 @@ module _ (bs : List ℕ) where
 
 -- ---- the promise
 
--- the text and what stood behind it; or the player's word for a schedule that it refuses, and all as it was
+-- the text's length; or why the player refuses the schedule
+abbrev pub Shown : Type 0
+Shown = Result ℕ Unshown
+
+-- the numbers of a schedule that is played
+unfoldable pub played : List ℕ → Result Size Unshown
+played bs =
+    if is_long bs then Err Long
+    else if is_header bs then (if fits (size_in bs) then Ok (size_in bs) else Err Unfit)
+    else Err Header
+
+-- the text and what stood behind it; or why the player refuses it, and all as it was
 unfoldable pub outcome : List ℕ → List ℕ → Shown × List ℕ
 outcome bs before =
-    if is_long bs then (Long, before)
+    if is_long bs then (Err Long, before)
     else if is_header bs then
-    (if fits (size_in bs) then (Text (length (text bs)), text bs ++ drop (length (text bs)) before) else (Unfit, before))
-    else (Header, before)
+    (if fits (size_in bs) then (Ok (length (text bs)), text bs ++ drop (length (text bs)) before) else (Err Unfit, before))
+    else (Err Header, before)

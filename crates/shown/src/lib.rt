@@ -3,51 +3,63 @@
 // A schedule as text: bytes to text.
 //
 // `text_of` takes bytes of any kind. What the player would play is written as text to the front of `out`; of
-// what the player refuses, its word is the answer, and `out` is as it was. specs/Shown.antt says what the
+// what the player refuses, the reason is the answer, and `out` is as it was. specs/Shown.antt says what the
 // text is: a line for the header, one for each step, and one for a step that is cut short.
 mod lines;
 mod whole;
-mod writing;
 
 ghost use Rattle.std.specs.Prelude.{◌≡◌};
-ghost use Rattle.book.specs.Sizes.{sized, fits};
-ghost use Rattle.shown.specs.Shown.{outcome};
+ghost use Rattle.shown.specs.Shown.{outcome, played};
 
-use schedule::reading::{is_header, is_long};
+use book::Size;
+use printing::Page;
+use schedule::reading::{header, is_long};
+use std::fmt;
 use whole::write_text;
 
 // Room for the text of every schedule, and the longest text that `text` takes.
 pub const ROOM: usize = 262144;
 
-// The text's length; or the player's word for a schedule that it refuses.
-#[derive(Clone, Copy)]
-pub enum Shown {
-    Text(usize),
+// Why the player refuses a schedule.
+#[derive(Clone, Copy, Debug, PartialEq, Eq)]
+pub enum Unshown {
     Long,
     Header,
     Unfit,
 }
 
-// NB, NE and T within their limits.
-#[tactic(auto, unfolding(book::specs::Sizes::fits))]
-fn fits_limits(nb: u8, ne: u8, t: u8) -> bool
-    ensures { result ≡ fits (sized nb ne t) }
-{
-    ((2 <= nb) & (nb <= 64)) & ((1 <= ne) & (ne <= 64)) & ((1 <= t) & (t <= 16))
+// The player's word for it.
+impl fmt::Display for Unshown {
+    fn fmt<W: fmt::Write>(&self, f: &mut fmt::Formatter<W>) -> fmt::Result {
+        f.write_str(match *self {
+            Unshown::Long => "LONG",
+            Unshown::Header => "HEADER",
+            Unshown::Unfit => "UNFIT",
+        })
+    }
 }
 
-pub fn text_of(input: &[u8], out: &mut [u8; ROOM]) -> Shown
-    ensures { (result, out.new) ≡ outcome input.now out.old }
+// The numbers of a schedule that the player plays.
+#[tactic(auto, unfolding(crate::specs::Shown::played, schedule::specs::Bytes::header))]
+fn played(input: &[u8]) -> Result<Size, Unshown>
+    ensures { result ≡ played input.now }
 {
     if is_long(input) {
-        return Shown::Long;
+        return Err(Unshown::Long);
     }
-    if is_header(input) {
-        if fits_limits(input[5], input[6], input[7]) {
-            let end = write_text(input, out);
-            return Shown::Text(end);
-        }
-        return Shown::Unfit;
+    let size = header(input).ok_or(Unshown::Header)?;
+    if size.fits() {
+        Ok(size)
+    } else {
+        Err(Unshown::Unfit)
     }
-    Shown::Header
+}
+
+pub fn text_of(input: &[u8], out: &mut [u8; ROOM]) -> Result<usize, Unshown>
+    ensures { (result, out.new) ≡ outcome input.now out.old }
+{
+    let size = played(input)?;
+    let mut page = Page::new(out);
+    write_text(&mut page, input, size);
+    Ok(page.len)
 }

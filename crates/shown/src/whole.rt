@@ -1,46 +1,26 @@
 // The whole text: the header's line, a line for each whole step, and one for a step that is cut short.
-ghost use Rattle.std.specs.Prelude.{◌≡◌, ◌+◌, ◌*◌, ◌≤◌};
-ghost use Rattle.printing.specs.Writes.{Writes};
-ghost use Rattle.schedule.specs.Bytes.{whole_steps, steps_of};
-ghost use Rattle.shown.specs.Shown.{steps_text, cut_text, text};
-ghost use Rattle.shown.specs.Parts.{Readable, line_most};
+ghost use Rattle.std.specs.Prelude.{◌≡◌, length};
+ghost use Rattle.printing.specs.Page.{HasRoom, Wrote};
+ghost use Rattle.schedule.specs.Bytes.{header};
+ghost use Rattle.shown.specs.Shown.{text};
 
-use crate::lines::{cut_line, size_line, step_line};
-use crate::writing::write_line;
-use schedule::reading::{is_cut, step_at, whole_steps};
+use crate::lines::{write_cut, write_line, write_step};
+use book::Size;
+use printing::Page;
+use schedule::reading::{step_at, steps};
 
-// A line for each whole step.
-fn write_steps(input: &[u8], out: &mut [u8], from: usize) -> usize
-    requires { Readable input.now out.old × (from ≤ line_most) }
-    ensures writes { Writes from (steps_text (steps_of input.now)) out.old result out.new }
-    ensures upper_bound { result ≤ line_most + line_most * whole_steps input.now }
+pub fn write_text(page: &mut Page<'_>, input: &[u8], size: Size)
+    requires { HasRoom (length (text input.now)) page.old × (header input.now ≡ Some size) }
+    ensures { Wrote (text input.now) page.old page.new }
 {
-    let count = whole_steps(input);
-    let mut at = from;
-    for i in 0..count {
-        let s = step_at(input, 8 + 9 * i);
-        at = write_line(out, at, step_line(s));
+    let Size { nb, ne, t } = size;
+    write_line(page, "size", &[u32::from(nb), u32::from(ne), u32::from(t)]);
+    let whole = steps(input);
+    let cut = whole.remainder();
+    for step in whole {
+        write_step(page, step_at(step, 0));
     }
-    at
-}
-
-// The line of a step that is cut short, where one is.
-fn write_cut(input: &[u8], out: &mut [u8], at: usize) -> usize
-    requires { Readable input.now out.old × (at ≤ line_most + line_most * whole_steps input.now) }
-    ensures { Writes at (cut_text input.now) out.old result out.new }
-{
-    if is_cut(input) {
-        let from = 8 + 9 * whole_steps(input);
-        return write_line(out, at, cut_line(input, from));
+    if !cut.is_empty() {
+        write_cut(page, cut);
     }
-    at
-}
-
-pub fn write_text(input: &[u8], out: &mut [u8]) -> usize
-    requires { Readable input.now out.old }
-    ensures { Writes 0 (text input.now) out.old result out.new }
-{
-    let sized = write_line(out, 0, size_line(input[5], input[6], input[7]));
-    let stepped = write_steps(input, out, sized);
-    write_cut(input, out, stepped)
 }

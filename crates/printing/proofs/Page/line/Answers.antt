@@ -1,5 +1,4 @@
--- Room for a whole line is room for its six pieces: behind each the next one still has its own.
-
+-- The six pieces of a line, one behind the other, are the line, and 25 bytes at most.
 use Rattle.printing.proofs.Lines.{line_wrote, line_short}
 use Rattle.printing.proofs.Page.line.Goals as goal
 

@@ -1,5 +1,5 @@
 -- Rules 2 and 3 are asked over the records of the turns' blocks.
-use Rattle.std.proofs.Common.{◌≡◌, Bool, true, List, ℕ, ◌*◌, ◌%◌, ◌<◌, ltb, get_or, ap, sym, ◌∙◌}
+use Rattle.std.proofs.Common.{◌≡◌, Bool, true, List, ℕ, ◌*◌, ◌%◌, ltb, get_or, ap, sym, ◌∙◌}
 use Rattle.book.proofs.Choice.{and_first, T→true}
 use Rattle.line.specs.declared.Block.{Block}
 use Rattle.line.specs.declared.Head.{Head}
