@@ -13,7 +13,7 @@ use printing::Page;
 use schedule::reading::{is_cut, step_at, whole_steps};
 use schedule::{HEADER, STEP};
 
-// Steps are numbered from 1.
+// Steps are numbered from 1. A number is below 10,000, so the cast leaves it as it is, and no TryFrom can fail.
 fn number_of(i: usize) -> u32
     requires { suc i < numbers_below }
     ensures { result ≡ suc i }
