@@ -55,5 +55,5 @@ module _ (h : Head) (t : List Block) (n : ℕ) (es : List ℕ) (c : Checked) (q 
     pub ready : Ready h t es
     ready = subst (λ (k : ℕ). Lawful z (line_of h t k es)) all_lent lawful
 
-    pub goes : (d : Deed) (o : Given Answer) → o ≡ back_of t h.nb (does z (line_of h t h.nb es) d) → o ≡ called d
-    goes d o p = rw (same, e) (subst⁻¹ (λ (k : ℕ). o ≡ back_of t k (does z (line_of h t k es) d)) all_lent p)
+    pub goes : (d b : Deed) (o : Given Answer) → d ≡ b → o ≡ back_of t h.nb (does z (line_of h t h.nb es) b) → o ≡ called d
+    goes d b o f p = rw (same, e, f) (subst⁻¹ (λ (k : ℕ). o ≡ back_of t k (does z (line_of h t k es) b)) all_lent p)

@@ -4,7 +4,8 @@ use mathlib.Core.Path.{◌≡◌, refl, ap, ◌∙◌}
 use mathlib.Core.Bool.{Bool, true, false, not}
 use Prim.Native.Nat.{ℕ, ◌<◌}
 use lib.ListN.{get_or}
-use Rattle.std.specs.Prelude.{Ok, Err}
+use mir.Val.{bool_byte}
+use Rattle.std.specs.Prelude.{Ok, Err, is_ok}
 use Rattle.book.specs.Choice.{◌≡ᵇ◌}
 use Rattle.book.specs.Sizes.{sized, is_owned, current_turn}
 use Rattle.book.specs.declared.DeskStep.TheVariants.{Look as look}
@@ -22,7 +23,7 @@ use Rattle.line.proofs.Verdicts.{lookable_same}
 abbrev pub seen : Verdict → Bool
 seen v = judge v true (λ w. false)
 
-pub seen_bit : (v : Verdict) → judge v 1 (λ w. 0) ≡ bit (seen v)
+pub seen_bit : (v : Verdict) → bool_byte (is_ok v) ≡ bit (seen v)
 seen_bit (Ok u) = refl
 seen_bit (Err w) = refl
 

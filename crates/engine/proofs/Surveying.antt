@@ -52,8 +52,11 @@ module _ (h : Head) (t : List Block) (n m : ℕ) (long : length t ≡ 64) (is_so
   pub lent_all : n ≡ length (take n t)
   lent_all = sym (length-take-le n t lent_few)
 
-  pub lent_in : (i : ℕ) → i < length (take n t) → (h.nb ≤ 64) × (i < h.nb)
-  lent_in i k = let s = sound_sized in let v = s.limits in (v.nb_most, omega (arith, lent_all))
+  pub some_blocks : (1 ≤ h.nb) × (h.nb ≤ 64)
+  some_blocks = let v = sound_sized.limits in (omega arith, v.nb_most)
+
+  pub lent_in : (i : ℕ) → i < length (take n t) → i < h.nb
+  lent_in i k = let s = sound_sized in omega (arith, lent_all, s.blocks)
 
   lent_is : lent_table t n ≡ take n t
   unfolding lent_table

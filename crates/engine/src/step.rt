@@ -49,6 +49,7 @@ fn perform(
 }
 
 // An order of the labels a to b, as a call of its own.
+#[tactic(auto, unfolding(line::specs::Calls::orders, line::specs::Line::does))]
 pub fn order(
     h: Head,
     table: [Block; 64],
@@ -63,6 +64,7 @@ pub fn order(
 }
 
 // A step: a code and two numbers.
+#[tactic(auto, unfolding(line::specs::Calls::step))]
 pub fn step(
     h: Head,
     table: [Block; 64],

@@ -29,22 +29,22 @@ desk_step-requires c = passed (goal.at.desk_step-requires c).In_default
 
 pub returns-in-Put : goal.returns-in-Put
 unfolding does
-returns-in-Put c = rw c.in-Put.is (goes _ _ _ _ _ c.check.ensures (search rules) (search rules) c.in_default.is _ _ c.put.ensures)
+returns-in-Put c = goes _ _ _ _ _ c.check.ensures (search rules) (search rules) c.in_default.is _ _ _ c.in-Put.is c.put.ensures
 
 pub returns-in-Get : goal.returns-in-Get
 unfolding does
-returns-in-Get c = rw c.in-Get.is (goes _ _ _ _ _ c.check.ensures (search rules) (search rules) c.in_default.is _ _ c.get.ensures)
+returns-in-Get c = goes _ _ _ _ _ c.check.ensures (search rules) (search rules) c.in_default.is _ _ _ c.in-Get.is c.get.ensures
 
 pub returns-in-Order : goal.returns-in-Order
 unfolding does
-returns-in-Order c = rw c.in-Order.is (goes _ _ _ _ _ c.check.ensures (search rules) (search rules) c.in_default.is _ _ c.order.ensures)
+returns-in-Order c = goes _ _ _ _ _ c.check.ensures (search rules) (search rules) c.in_default.is _ _ _ c.in-Order.is c.order.ensures
 
 pub returns-in-Desk : goal.returns-in-Desk
 unfolding does
-returns-in-Desk c = rw c.in-Desk.is (goes _ _ _ _ _ c.check.ensures (search rules) (search rules) c.in_default.is _ _ c.desk_step.ensures)
+returns-in-Desk c = goes _ _ _ _ _ c.check.ensures (search rules) (search rules) c.in_default.is _ _ _ c.in-Desk.is c.desk_step.ensures
 
 pub returns-in-Unlisted : goal.returns-in-Unlisted
 unfolding does
 returns-in-Unlisted c =
-    rw (c.in-Unlisted.is, c.refused-in-Unlisted.ensures)
-    (goes _ _ _ _ _ c.check.ensures (search rules) (search rules) c.in_default.is _ _ (refused _ _ _ _ Badstep))
+    rw c.refused-in-Unlisted.ensures
+    (goes _ _ _ _ _ c.check.ensures (search rules) (search rules) c.in_default.is _ _ _ c.in-Unlisted.is (refused _ _ _ _ Badstep))
