@@ -61,7 +61,9 @@ pub fn open(
     ensures { Opens (lent head.old table.old entries.old) (the_size nb ne t) result (lent head.new table.new entries.new) }
 {
     let z = Size { nb, ne, t };
-    let call = |h: Head, records: [Block; 64], n: usize, es: &mut [u32]| -> Outcome<Result<(), Refusal>>
+    let call = |h: Head, records: [Block; 64], n: usize, es: &mut [u32]| -> Outcome<
+        Result<(), Refusal>,
+    >
         ensures { GivesOpening h records n es.old z result es.new }
     { engine::opening::open(h, records, n, es, z) };
     lend(head, table, entries, call)
