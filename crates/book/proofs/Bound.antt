@@ -122,7 +122,7 @@ module _ (z : Size) where
           changes (looked (row_of z t place)) 0 (rw (first_waits z b.rows t w, row_turn z t place (first_fits z b.rows t w), lt-ltb b.k t l) zero-le)
 
       -- the desk that wins has no look, so at most T - 1 are dead
-      wins : (x : Hold ℕ) → Paid b (record { rows = mark_gone b.rows x.at; k = b.k; desks = set b.desks d (holding x) }) 0 1
+      wins : (x : Hold ℕ) → Paid b (record b { rows = mark_gone b.rows x.at; desks = set b.desks d (holding x) }) 0 1
       unfolding put_turn
       wins x =
           let rs = mark_gone b.rows x.at in

@@ -151,7 +151,7 @@ module _ (z : Size) where
       }
 
   -- a refusal, or an order's end: at most K changes
-  stays : (b : Book) (t k : ℕ) → Fair b.rows b.desks → Kept b k (record { rows = b.rows; k = t; desks = b.desks }) k 0 [] []
+  stays : (b : Book) (t k : ℕ) → Fair b.rows b.desks → Kept b k (record b { k = t }) k 0 [] []
   unfolding total
   stays b t k f = of_desks b t k b.desks f (none b.rows) (λ w. omega arith)
 
@@ -209,7 +209,7 @@ module _ (z : Size) where
       lets_go y i n o = becomes y i (none b.rows) (λ w. omega (arith, n w, o w))
 
       wins : (r : ℕ) → desk_at b d ≡ looked r → T (winnable z b.rows b.k r)
-          → Kept b 0 (record { rows = mark_gone b.rows r; k = b.k; desks = set b.desks d (holding (claimed_at r)) }) 0 0 [] []
+          → Kept b 0 (record b { rows = mark_gone b.rows r; desks = set b.desks d (holding (claimed_at r)) }) 0 0 [] []
       unfolding winnable total
       wins r e t =
           let i : r < length b.rows = rw e at (f.within d) in

@@ -130,10 +130,6 @@ module _ (z : Size) where
   unfolding opened
   opened_clean = record { marks = λ n. sym (le-ltb n 0 (omega arith)); desks = λ d. rw (replicate_at {A = Desk ℕ} z.t d idle) tt }
 
-map_same : (f g : ℕ → ℕ) → ((n : ℕ) → f n ≡ g n) → (l : List ℕ) → map f l ≡ map g l
-map_same f g h [] = refl
-map_same f g h (n ∷ l) = rw (h n) (ap (λ (m : List ℕ). g n ∷ m) (map_same f g h l))
-
 pub first_in_first_out : FirstInFirstOut
 unfolding FirstInFirstOut PlacedInOrder Handed Counting Placed
 first_in_first_out z ss h =
@@ -141,5 +137,5 @@ first_in_first_out z ss h =
     let l = answers z (opened z) ss in
     let rows = run_goes z ss (opened z) (opened_fronts z) 0 (opened_clean z) h in
     let long : 0 + got l ≤ length (labels_of rs) = rw (length-map rs (λ r. r.label)) (omega (arith, counting z ss, placed_rows z ss)) in
-    handed_over z ss ∙ ap (map (λ n. (row_at rs n).label)) rows ∙ map_same _ _ (reads_label rs) (up_from (got l) 0)
+    handed_over z ss ∙ ap (map (λ n. (row_at rs n).label)) rows ∙ (λ i. map (λ n. reads_label rs n i) (up_from (got l) 0))
     ∙ up_reads (labels_of rs) (got l) 0 long ∙ ap (take (got l)) (sym (placed_in_order z ss))

@@ -111,7 +111,7 @@ module _ (z : Size) where
     stays : Grows b b
     stays = record { fronts = f; onward = omega arith; gone = λ n g. g }
 
-    of_desk : (d : ℕ) (x : Desk ℕ) → Seen b.rows x → Grows b (record { rows = b.rows; k = b.k; desks = set b.desks d x })
+    of_desk : (d : ℕ) (x : Desk ℕ) → Seen b.rows x → Grows b (record b { desks = set b.desks d x })
     of_desk d x s = record {
       fronts = record {
         reached = f.reached;
@@ -127,7 +127,7 @@ module _ (z : Size) where
 
     -- K moves on to turn t, below which all rows are gone
     of_move : (t : ℕ) → b.k ≤ t → t ≤ put_turn z b.rows → ((m : ℕ) → m / z.ne < t → Gone b.rows m)
-        → Grows b (record { rows = b.rows; k = t; desks = b.desks })
+        → Grows b (record b { k = t })
     of_move t h l all = record {
       fronts = record { reached = l; near = omega (arith, f.near); rounds = f.rounds; prefix = f.prefix; past = all; seen = f.seen };
       onward = h;
@@ -135,7 +135,7 @@ module _ (z : Size) where
     }
 
     -- row n is marked, all before it in its turn being gone
-    of_mark : (n : ℕ) → Before b.rows n → Grows b (record { rows = mark_gone b.rows n; k = b.k; desks = b.desks })
+    of_mark : (n : ℕ) → Before b.rows n → Grows b (record b { rows = mark_gone b.rows n })
     unfolding put_turn
     of_mark n q =
         let keeps = mark_keeps b.rows n in
@@ -199,7 +199,7 @@ module _ (z : Size) where
         none_waits b.rows (m / z.ne) (read_past (put_turn z b.rows - b.k) b.rows b.k (m / z.ne) (nltb→le (m / z.ne) b.k t) h) pos m refl
         (below_in b.rows m (omega arith) pos))
 
-    moved : Grows b (record { rows = b.rows; k = reads b; desks = b.desks })
+    moved : Grows b (record b { k = reads b })
     moved = of_move b f (reads b) (reads_low b) reads_high reads_past
 
     get_grows : Grows b (get_step z b).book

@@ -1,6 +1,7 @@
 -- Labels in order. The rows of the book are the labels placed, in order; and the labels that gets hand over are those of the rows got,
 -- which are in order (proofs/Order.antt): so they are the labels placed with others left out.
 use Rattle.std.proofs.Common.{◌≡◌, ℕ, zero, suc, ◌+◌, ◌-◌, ◌<◌, false, ltb, List, [], ◌∷◌, ◌++◌, map, length, get_or, if◌then◌else◌, sym, refl, ap, ◌∙◌, ap₂, append_assoc, append-nil, zero-le, arith, ltb→lt, nltb→le, true≢false}
+use Rattle.std.specs.List.{AllByRecursion as All}
 use Rattle.std.proofs.Math.ListN.{length-map, get_or-map, get_or-eq_default}
 use Rattle.std.proofs.Math.Seq.{map-set_same}
 use Rattle.std.proofs.lemmas.List.{map-append}
@@ -16,7 +17,7 @@ use Rattle.book.proofs.Counting.{Fair, Reads, does_kept, run_kept, opened_fair}
 use Rattle.book.proofs.DeskKinds.{desk_kind}
 use Rattle.book.proofs.Fronts.{Gone, Fronts, reads, step_grows, run_grows, opened_fronts}
 use Rattle.book.proofs.Order.{step_gets, run_got}
-use Rattle.book.proofs.Rising.{All, all_map, all_append, picked}
+use Rattle.book.proofs.Rising.{all_map, all_append, picked}
 
 -- ---- the labels placed
 

@@ -21,9 +21,7 @@ module _ {A : Type 0} where
   total_mono f g h (x ∷ xs) = let r = total_mono f g h xs in omega (arith, h x)
 
   pub total_cong : (f g : A → ℕ) → ((x : A) → f x ≡ g x) → (l : List A) → total f l ≡ total g l
-  unfolding total
-  total_cong f g h [] = refl
-  total_cong f g h (x ∷ xs) = let r = total_cong f g h xs in omega (arith, h x)
+  total_cong f g h l = λ i. total (λ x. h x i) l
 
   -- where each counts at most 1, the total is at most the length; and less where one of them counts 0
   pub total_le : (f : A → ℕ) → ((x : A) → f x ≤ 1) → (l : List A) → total f l ≤ length l

@@ -125,7 +125,7 @@ module _ (l : Line) (b : Book) (g : Agrees (size_of l.head) l b) (d : ℕ) (h : 
         front_same (size_in l) l m u refl refl refl
         (λ a i. ap (λ (x : Block). x.claimed) (record_apart (size_in l) l.table t (one_claimed c) p u window (near l b g u (omega arith) i) n))
 
-    won_matches : Matches (size_in l) m (record { rows = mark_gone b.rows row; k = b.k; desks = set b.desks d (holding (claimed_at row)) })
+    won_matches : Matches (size_in l) m (record b { rows = mark_gone b.rows row; desks = set b.desks d (holding (claimed_at row)) })
     won_matches =
         desk_matches l b g d h (holding (claimed_at s)) tb (mark_gone b.rows row) kept (sees_not l b g tb (holding (claimed_at s)) (λ x. x))
         (mark_length b.rows row) (λ n. mark_label b.rows row n on_list)

@@ -116,7 +116,7 @@ pub stands_by : {z : Size} {p : ℕ} {ds ds' : List LentDesk} {t : ℕ} {c : Blo
 stands_by e s = record { round = s.round; fits = s.fits; full = s.full; some = s.some; claims = s.claims; zeroth = s.zeroth; holders = rw e s.holders }
 
 abbrev pub with_desks : Head → List LentDesk → Head
-with_desks h ds = record { nb = h.nb; ne = h.ne; t = h.t; reading = h.reading; p = h.p; k = h.k; desks = ds }
+with_desks h ds = record h { desks = ds }
 
 -- what rules 2 and 3 ask of c, the new record of turn t
 pub record Grows (l : Line) (t : ℕ) (c : Block) : Type 0 where

@@ -54,7 +54,7 @@ CheckNames = (l : Line) (place rule : ℕ) → Fit l → FirstBroken l place rul
 
 -- entries are not checked: whatever as many entries hold, check and survey are the same
 abbrev pub with_entries : Line → List ℕ → Line
-with_entries l es = record { head = l.head; table = l.table; entries = es }
+with_entries l es = record l { entries = es }
 
 unfoldable pub CheckUnread : Type 0
 CheckUnread = (l : Line) (es : List ℕ) → length es ≡ length l.entries → check (with_entries l es) ≡ check l

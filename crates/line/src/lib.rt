@@ -15,8 +15,10 @@ ghost use Rattle.line.specs.Check.{refusal_of};
 use book::Size;
 use words::{Answer, Refusal};
 
-// A desk: stage 0 is idle, 1 looked, 2 claimed, 3 fetched. An idle desk's turn and place are not read. The stage is a
-// number and not an enum: a portal lends the record through the C interface, with any number in it.
+// Desk, block and head are lent by a portal, and so laid out as the C interface has them, with any number in any field:
+// that is why a desk's stage is a number and no enum, and why a head has sixteen desks, whatever T is.
+
+// A desk: stage 0 is idle, 1 looked, 2 claimed, 3 fetched. An idle desk's turn and place are not read.
 #[repr(C)]
 #[derive(Clone, Copy, Debug, PartialEq, Eq)]
 pub struct Desk {
@@ -77,7 +79,7 @@ pub struct Moved {
 }
 
 // What is wrong with a line: its numbers or lengths do not fit, or it breaks a rule: at which place, and the rule's
-// number. The place is a number, 64 for the head and else a block: so the C interface says it.
+// number. The place is a number, 64 for the head and else a block, as the C interface says it.
 #[derive(Clone, Copy, Debug, PartialEq, Eq)]
 pub enum Fault {
     Unfit,
@@ -96,7 +98,8 @@ impl From<Fault> for Refusal {
     }
 }
 
-// What the survey finds.
+// What the survey finds. The lowest is no Option: it is 64 where there is none, as the C interface says it and
+// `trailing_zeros` of the mask gives it.
 #[derive(Clone, Copy, Debug, PartialEq, Eq)]
 pub struct Findings {
     pub mask: u64,

@@ -9,8 +9,8 @@ use line::{Block, Fault};
 use ring::Ring;
 
 // An unused block has zeros throughout: it breaks rule 4 or no rule.
-fn is_blank(c: Block, nb: u32, turn: u32) -> bool
-    ensures { result ≡ obeys4 false c nb turn }
+fn is_blank(c: Block) -> bool
+    ensures { result ≡ obeys4 false c 0 0 }
 {
     c == unused()
 }
@@ -56,14 +56,14 @@ pub fn block_rules(ring: Ring, ne: u16, turns: &[u32; 16], i: u32, c: Block) -> 
     requires { i < ring.nb }
     ensures { result ≡ block_asked ring.nb ne ring.p turns.now i c }
 {
-    let turn = ring.current_turn(i);
     if ring.p < i {
-        return if is_blank(c, ring.nb, turn) {
+        return if is_blank(c) {
             Ok(())
         } else {
             Err(Fault::Broken(i, 4))
         };
     }
+    let turn = ring.current_turn(i);
     if !rule4(c, ring.nb, i, turn) {
         return Err(Fault::Broken(i, 4));
     }

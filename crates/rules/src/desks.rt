@@ -20,10 +20,11 @@ fn is_holding(d: Desk) -> bool
 fn desk_rule(d: Desk, c: Block, ring: Ring, ne: u16) -> bool
     ensures { result ≡ (d.stage ≤ᵇ 3 && desk_obeys ring.nb ne ring.p c (desk_of d)) }
 {
+    let current = ring.is_current(d.turn);
     match d.stage {
         0 => true,
-        1 => d.turn <= ring.p && d.place < ne && (!ring.is_current(d.turn) || d.place < c.written),
-        2 | 3 => ring.is_current(d.turn) && d.place < c.claimed,
+        1 => (d.turn <= ring.p) & (d.place < ne) & (!current | (d.place < c.written)),
+        2 | 3 => current & (d.place < c.claimed),
         _ => false,
     }
 }
@@ -86,7 +87,11 @@ fn held_turn(d: Desk) -> u32
 pub fn held_turns(desks: &[Desk; 16]) -> [u32; 16]
     ensures { result ≡ map held_turn desks.now }
 {
-    desks.map(held_turn)
+    let mut turns = [0; 16];
+    for (i, turn) in turns.iter_mut().enumerate() {
+        *turn = held_turn(desks[i]);
+    }
+    turns
 }
 
 // How many of them are the turn.

@@ -1,6 +1,6 @@
--- Each call of `map` gave the turn of the desk at its place.
-use Rattle.std.proofs.Common.{◌≡◌, get_or, map, sym, ◌∙◌, arith, rules, tests}
-use Rattle.std.proofs.lemmas.List.{same_lists, get_or-map, length-map}
+use Rattle.std.proofs.Common.{map, sym, ◌∙◌, arith}
+use Rattle.std.proofs.lemmas.Grind.{same_number_lists}
+use Rattle.std.proofs.lemmas.List.{get_or-map, length-map}
 use Rattle.book.specs.Steps.{idle}
 use Rattle.line.specs.Line.{numbers_of}
 use Rattle.rules.specs.Holders.{held_turn}
@@ -8,9 +8,6 @@ use Rattle.rules.proofs.desks.held_turns.Goals as goal
 
 pub returns : goal.returns
 returns c =
-    let desks = c.args.desks.now in let made = c.map.ensures.items in
-    same_lists c.map.result (map held_turn desks) (omega (arith, made.long, length-map desks held_turn))
-    (λ k d h.
-    let call = made.at k (numbers_of idle) d (omega (arith, made.long)) in
-    let e : get_or c.map.result k d ≡ held_turn (get_or desks k (numbers_of idle)) = search (rules, tests) in
-    e ∙ sym (get_or-map held_turn desks k (numbers_of idle) d (omega (arith, made.long))))
+    let desks = c.args.desks.now in
+    same_number_lists _ (map held_turn desks) (omega (arith, length-map desks held_turn))
+    (λ k h. c.loop-i.invariant k (omega arith) ∙ sym (get_or-map held_turn desks k (numbers_of idle) 0 (omega arith)))
