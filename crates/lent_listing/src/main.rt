@@ -66,7 +66,7 @@ fn play(rt: &impl Print) -> io::Result<u32> {
         mut head,
         mut table,
     } = engine::opening::open(USED_HEAD, records, 2, &mut entries, size);
-    let same = lent_head == head && lent_table[..] == table[..2] && lent_entries == entries;
+    let same = lent_head == head && table.starts_with(&lent_table) && lent_entries == entries;
     if lent_opening != opening || !same {
         rt.write_all(b"the openings differ\n")?;
     }
@@ -86,7 +86,7 @@ fn play(rt: &impl Print) -> io::Result<u32> {
         head = held.head;
         table = held.table;
         print(rt, i as u32 + 1, lent_answer)?;
-        let same = lent_head == head && lent_table[..] == table[..2] && lent_entries == entries;
+        let same = lent_head == head && table.starts_with(&lent_table) && lent_entries == entries;
         if lent_answer == held.answer && same {
             agreed += 1;
         }

@@ -61,10 +61,14 @@ pub fn open(
     ensures { Opens (lent head.old table.old entries.old) (the_size nb ne t) result (lent head.new table.new entries.new) }
 {
     let z = Size { nb, ne, t };
-    let call = |h: Head, records: [Block; 64], n: usize, es: &mut [u32]| -> Outcome<Result<(), Refusal>>
-        ensures { GivesOpening h records n es.old z result es.new }
-    { engine::opening::open(h, records, n, es, z) };
-    lend(head, table, entries, call)
+    lend(
+        head,
+        table,
+        entries,
+        |h, records, n, es|
+            ensures { GivesOpening h records n es.old z result es.new }
+        { engine::opening::open(h, records, n, es, z) },
+    )
 }
 
 // One step: a code and two numbers.
@@ -78,10 +82,14 @@ pub fn step(
 ) -> Answer
     ensures { Steps (lent head.old table.old entries.old) (the_step code a b) result (lent head.new table.new entries.new) }
 {
-    let call = |h: Head, records: [Block; 64], n: usize, es: &mut [u32]| -> Outcome<Answer>
-        ensures { GivesStep h records n es.old (the_step code a b) result es.new }
-    { engine::step::step(h, records, n, es, code, a, b) };
-    lend(head, table, entries, call)
+    lend(
+        head,
+        table,
+        entries,
+        |h, records, n, es|
+            ensures { GivesStep h records n es.old (the_step code a b) result es.new }
+        { engine::step::step(h, records, n, es, code, a, b) },
+    )
 }
 
 // The labels first to last, both included.
@@ -94,10 +102,14 @@ pub fn order(
 ) -> Answer
     ensures { Orders (lent head.old table.old entries.old) first last result (lent head.new table.new entries.new) }
 {
-    let call = |h: Head, records: [Block; 64], n: usize, es: &mut [u32]| -> Outcome<Answer>
-        ensures { GivesOrder h records n es.old first last result es.new }
-    { engine::step::order(h, records, n, es, first, last) };
-    lend(head, table, entries, call)
+    lend(
+        head,
+        table,
+        entries,
+        |h, records, n, es|
+            ensures { GivesOrder h records n es.old first last result es.new }
+        { engine::step::order(h, records, n, es, first, last) },
+    )
 }
 
 // Is the line sound? Nothing is changed.
