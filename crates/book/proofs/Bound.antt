@@ -3,15 +3,8 @@
 -- A win leaves at most T - 1 looks dead, a move of K at most T, and no other step makes a look dead. So for each step
 --   lost + dead + T × K(before) ≤ dead(before) + (T - 1) × won + T × K,
 -- and by adding up for each run, with K ≤ P and exactly T desks throughout.
-use Rattle.std.specs.Prelude.{if◌then◌else◌}
-use mathlib.Core.Path.{◌≡◌, refl, ap, ◌∙◌}
-use mathlib.Core.Bool.{not}
-use mathlib.Core.List.{List, [], ◌∷◌}
-use Prim.Native.Nat.{ℕ, zero, suc, ◌+◌, ◌-◌, ◌*◌, ◌/◌, ◌≤◌, ◌<◌, zero-le}
-use native.Mathlib.Nat.{mul-le-mul_left, le_trans}
-use native.Mathlib.Omega.{arith}
-use lib.Dec.{T, ltb→lt, nltb→le}
-use lib.ListN.{length, set, length-replicate, length-set, length-append}
+use Rattle.std.proofs.Common.{◌≡◌, ℕ, zero, suc, ◌+◌, ◌-◌, ◌*◌, ◌/◌, ◌<◌, ◌≤◌, not, T, List, [], ◌∷◌, length, set, if◌then◌else◌, refl, ap, ◌∙◌, zero-le, le_trans, mul-le-mul_left, arith, ltb→lt, nltb→le, length-append, length-set, lt-ltb}
+use Rattle.std.proofs.Math.ListN.{length-replicate}
 use Rattle.words.specs.declared.Answer.TheVariants.{Refused}
 use Rattle.book.specs.Choice.{◌<ᵇ◌, ◌≤ᵇ◌}
 use Rattle.book.specs.Total.{total}
@@ -22,7 +15,7 @@ use Rattle.book.specs.Book.{Row, Book, Outcome, says, row_at, desk_at, with_desk
 use Rattle.book.specs.Book.{read_turn, get_at, get_step, winnable, desk_step, does, step, opened, answers, after}
 use Rattle.book.specs.Counts.{count, won, lost, bound}
 use Rattle.book.specs.Demands.{Placed, Bounded}
-use Rattle.book.proofs.Choice.{by_test, cases, T→true, not→false, and_second, lt→true}
+use Rattle.book.proofs.Choice.{by_test, cases, T→true, not→false, and_second}
 use Rattle.book.proofs.Total.{total_set, total_mono, total_le, total_below, total_replicate}
 use Rattle.book.proofs.Turns.{div_mono}
 use Rattle.book.proofs.Deeds.{by_deed}
@@ -126,10 +119,10 @@ module _ (z : Size) where
       unfolding winnable
       sees t l w =
           let place = first z b.rows t in
-          changes (looked (row_of z t place)) 0 (rw (first_waits z b.rows t w, row_turn z t place (first_fits z b.rows t w), lt→true b.k t l) zero-le)
+          changes (looked (row_of z t place)) 0 (rw (first_waits z b.rows t w, row_turn z t place (first_fits z b.rows t w), lt-ltb b.k t l) zero-le)
 
       -- the desk that wins has no look, so at most T - 1 are dead
-      wins : (x : Hold ℕ) → Paid b (record { rows = mark_gone b.rows x.at; k = b.k; desks = set b.desks d (holding x) }) 0 1
+      wins : (x : Hold ℕ) → Paid b (record b { rows = mark_gone b.rows x.at; desks = set b.desks d (holding x) }) 0 1
       unfolding put_turn
       wins x =
           let rs = mark_gone b.rows x.at in

@@ -1,7 +1,5 @@
 -- The cases, computed. A group's proof has a place for each of its cases, in their order.
-use mathlib.Core.Path.{◌≡◌, refl, ap, ap₂, ◌∙◌}
-use mathlib.Core.List.{List, [], ◌∷◌, ◌++◌}
-use native.Mathlib.Omega.{arith}
+use Rattle.std.proofs.Common.{◌≡◌, List, [], ◌∷◌, ◌++◌, refl, ap, ◌∙◌, ap₂, arith}
 use Rattle.words.specs.declared.Refusal.TheVariants.{Worn}
 use Rattle.book.specs.Sizes.{sized, fits, is_label, is_order, current_turn, is_owned}
 use Rattle.book.specs.Steps.{decode}
@@ -15,7 +13,7 @@ use Rattle.book.specs.Cases.{Case, no, fresh, marked, nearly_right, let_pass, de
 use Rattle.book.specs.Decoding.{Decoding}
 use Rattle.book.specs.WornCases.{by_turns, put_and_get, WornRun, WornCases}
 use Rattle.book.specs.BoundCases.{bound_cases, BoundCases}
-use Rattle.book.specs.Order.{filter, went_by, went_rows, got_rows, got_labels, placed_labels}
+use Rattle.book.specs.Order.{went_by, went_rows, got_rows, got_labels, placed_labels}
 use Rattle.book.specs.Clearing.{settling, emptying, clearing}
 use Rattle.book.specs.OrderCases.{order_cases, OrderCases}
 use Rattle.book.proofs.Clearing.{answers_append}
@@ -88,5 +86,5 @@ unfolding BoundCases bound_cases runs total bound
 bound_cases_lem = (refl, refl, (refl, refl, (refl, refl, tt)))
 
 pub order_cases_lem : OrderCases
-unfolding OrderCases order_cases runs total filter went_by went_rows got_rows got_labels placed_labels settling emptying clearing
+unfolding OrderCases order_cases runs total went_by went_rows got_rows got_labels placed_labels settling emptying clearing
 order_cases_lem = ((refl, refl, (refl, refl, tt)), λ h. absurd (let g = h.1.0 in omega arith), λ h. absurd (let g = h.1.0 in omega arith))

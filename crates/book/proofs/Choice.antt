@@ -1,11 +1,6 @@
 -- Laws of a choice by a test: to prove something of it, of two of them side by side, and to put a known test in.
-use mathlib.Core.Path.{◌≡◌, refl, sym, subst}
-use mathlib.Core.Logic.{◌≢◌}
-use mathlib.Core.Bool.{Bool, true, false, cond, not, ◌&&◌}
-use Prim.Native.Nat.{ℕ, ◌≤◌, ◌<◌}
-use native.Mathlib.Omega.{arith}
-use lib.Dec.{T, T_not, ltb, leb, eqb, ltb→lt, lt→ltb, nltb→le, leb→le, le→leb, eqb→eq, eqb_refl}
-use Rattle.std.specs.Prelude.{Ok, Err}
+use Rattle.std.proofs.Common.{◌≡◌, ℕ, ◌<◌, ◌≤◌, Bool, true, false, cond, not, ◌&&◌, T, eqb, ltb, leb, ◌≢◌, Ok, Err, sym, refl, subst, arith, le→leb, eqb→eq, ltb→lt, lt→ltb, leb→le, nltb→le, T_not}
+use Rattle.std.proofs.Math.Dec.{eqb_refl}
 use Rattle.words.specs.declared.Refusal.{Refusal}
 use Rattle.book.specs.Verdicts.{Verdict, takes, refuses, judge}
 

@@ -1,15 +1,8 @@
 -- Nothing is ever stuck: the desks settle (proofs/Settling.antt), the owner gets until EMPTY (proofs/Emptying.antt), and then K is P, so
 -- that turn P + 1 - NB is below K and no put is FULL; nor BUSY, where no desk holds a row. That each row left once is read off the
 -- tally of proofs/Counting.antt.
-use mathlib.Core.Path.{◌≡◌, refl, sym, ap, ◌∙◌}
-use mathlib.Core.Logic.{◌⊎◌, inl, inr, ⊎_elim}
-use mathlib.Core.Bool.{false, not, ◌&&◌}
-use mathlib.Core.List.{List, [], ◌∷◌, ◌++◌, append_assoc}
-use Prim.Native.Nat.{ℕ, suc, ◌+◌, ◌-◌, ◌*◌, ◌≤◌, ◌<◌}
-use native.Mathlib.Nat.{le_refl}
-use native.Mathlib.Omega.{arith}
-use lib.Dec.{T, T_not, leb→le, ltb→lt, nltb→le}
-use lib.ListN.{length, get_or, replicate, length-append, length-replicate, get_or-eq_default}
+use Rattle.std.proofs.Common.{◌≡◌, ℕ, suc, ◌+◌, ◌-◌, ◌*◌, ◌<◌, ◌≤◌, false, not, ◌&&◌, T, ◌⊎◌, List, [], ◌∷◌, ◌++◌, length, get_or, replicate, sym, refl, ap, ◌∙◌, inl, inr, ⊎_elim, append_assoc, le_refl, arith, ltb→lt, leb→le, nltb→le, T_not, length-append}
+use Rattle.std.proofs.Math.ListN.{length-replicate, get_or-eq_default}
 use Rattle.words.specs.declared.Answer.{Answer}
 use Rattle.words.specs.declared.Answer.TheVariants.{Put, Refused}
 use Rattle.words.specs.declared.Refusal.TheVariants.{Worn, Busy, Empty}

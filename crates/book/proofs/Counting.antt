@@ -3,15 +3,9 @@
 -- placed. So it left at most once; and summed over the rows, left + held = gone, which is placed - waiting.
 -- Both are one law, `tallied`, of two tallies. `Kept` says what a step keeps, the labels of proofs/Handed.antt among it:
 -- one lemma for each kind of change, one for each step, then every run.
-use Rattle.std.specs.Prelude.{if◌then◌else◌}
-use mathlib.Core.Path.{◌≡◌, refl, sym, ap, ap₂, ◌∙◌}
-use mathlib.Core.Bool.{Bool, true, false, not}
-use mathlib.Core.List.{List, [], ◌∷◌, ◌++◌, map, map-append}
-use Prim.Native.Nat.{ℕ, zero, suc, ◌+◌, ◌-◌, ◌/◌, ◌≤◌, ◌<◌}
-use native.Mathlib.Omega.{arith}
-use lib.Dec.{T, eqb, eqb→eq}
-use lib.ListN.{length, get_or, set, length-replicate, length-set, length-append, get_or-append}
-use lib.Seq.{get_or-set_same, get_or-set_other}
+use Rattle.std.proofs.Common.{◌≡◌, ℕ, zero, suc, ◌+◌, ◌-◌, ◌/◌, ◌<◌, ◌≤◌, Bool, true, false, not, T, eqb, List, [], ◌∷◌, ◌++◌, map, length, get_or, set, if◌then◌else◌, sym, refl, ap, ◌∙◌, ap₂, arith, eqb→eq, length-append, length-set, get_or-set_other, get_or-set_same}
+use Rattle.std.proofs.Math.ListN.{length-replicate, get_or-append}
+use Rattle.std.proofs.lemmas.List.{map-append}
 use Rattle.book.specs.Choice.{◌<ᵇ◌}
 use Rattle.book.specs.Total.{total}
 use Rattle.book.specs.Sizes.{Size, is_order}
@@ -157,7 +151,7 @@ module _ (z : Size) where
       }
 
   -- a refusal, or an order's end: at most K changes
-  stays : (b : Book) (t k : ℕ) → Fair b.rows b.desks → Kept b k (record { rows = b.rows; k = t; desks = b.desks }) k 0 [] []
+  stays : (b : Book) (t k : ℕ) → Fair b.rows b.desks → Kept b k (record b { k = t }) k 0 [] []
   unfolding total
   stays b t k f = of_desks b t k b.desks f (none b.rows) (λ w. omega arith)
 
@@ -215,7 +209,7 @@ module _ (z : Size) where
       lets_go y i n o = becomes y i (none b.rows) (λ w. omega (arith, n w, o w))
 
       wins : (r : ℕ) → desk_at b d ≡ looked r → T (winnable z b.rows b.k r)
-          → Kept b 0 (record { rows = mark_gone b.rows r; k = b.k; desks = set b.desks d (holding (claimed_at r)) }) 0 0 [] []
+          → Kept b 0 (record b { rows = mark_gone b.rows r; desks = set b.desks d (holding (claimed_at r)) }) 0 0 [] []
       unfolding winnable total
       wins r e t =
           let i : r < length b.rows = rw e at (f.within d) in

@@ -1,5 +1,5 @@
 -- What holds of a put, a get, an order, a desk's step and of BADSTEP holds of every deed.
-use Prim.Native.Nat.{ℕ}
+use Rattle.std.proofs.Common.{ℕ}
 use Rattle.words.specs.declared.Refusal.TheVariants.{Badstep}
 use Rattle.book.specs.Sizes.{Size}
 use Rattle.book.specs.Steps.{DeskStep, Deed, put, get, order, desk, unlisted}

@@ -1,12 +1,7 @@
 -- A desk's step is one of six: SEEN, CLAIMED, LOST, TOOK, DONE, or a refusal that changes nothing. What holds of each of
 -- them holds of every step of a desk. And what one desk's change leaves of the others.
-use mathlib.Core.Path.{◌≡◌, refl}
-use mathlib.Core.Bool.{Bool, not, ◌&&◌}
-use mathlib.Core.List.{List, [], ◌∷◌}
-use Prim.Native.Nat.{ℕ, zero, suc, ◌%◌, ◌<◌}
-use native.Mathlib.Omega.{arith}
-use lib.Dec.{T, nleb→lt}
-use lib.ListN.{get_or, set}
+use Rattle.std.proofs.Common.{◌≡◌, ℕ, zero, suc, ◌%◌, ◌<◌, Bool, not, ◌&&◌, T, List, [], ◌∷◌, get_or, set, refl, arith}
+use Rattle.std.proofs.Math.Dec.{nleb→lt}
 use Rattle.words.specs.declared.Answer.TheVariants.{Took, Seen, Claimed, Done, Refused}
 use Rattle.words.specs.declared.Refusal.{Refusal}
 use Rattle.words.specs.declared.Refusal.TheVariants.{Owned, Nothing, Lost}
@@ -49,7 +44,7 @@ module _ (z : Size) (b : Book) (P : Outcome → Type 0) where
     pub seen : (d t : ℕ) → d < z.t → Free (desk_at b d) → b.k < t → T (waits z b.rows t)
         → P (says (with_desk b d (looked (row_of z t (first z b.rows t)))) (Seen (first z b.rows t)))
     pub won : (d r : ℕ) → d < z.t → desk_at b d ≡ looked r → T (winnable z b.rows b.k r)
-        → P (says (record { rows = mark_gone b.rows r; k = b.k; desks = set b.desks d (holding (claimed_at r)) }) (Claimed (r % z.ne)))
+        → P (says (record b { rows = mark_gone b.rows r; desks = set b.desks d (holding (claimed_at r)) }) (Claimed (r % z.ne)))
     pub lost : (d r : ℕ) → d < z.t → desk_at b d ≡ looked r → T (not (winnable z b.rows b.k r)) → P (says (with_desk b d idle) (Refused Lost 0))
     pub took : (d : ℕ) (h : Hold ℕ) → d < z.t → desk_at b d ≡ holding h → T (not (is_fetched h))
         → P (hands (with_desk b d (holding (with_fetched h))) (Took (row_at b.rows h.at).label) h.at)
@@ -71,7 +66,7 @@ module _ (z : Size) (b : Book) (P : Outcome → Type 0) where
 
       -- the desk that wins holds row n, which is the row seen
       won_kind : (r n : ℕ) → n ≡ r → desk_at b d ≡ looked r → T (winnable z b.rows b.k r)
-          → P (says (record { rows = mark_gone b.rows r; k = b.k; desks = set b.desks d (holding (claimed_at n)) }) (Claimed (r % z.ne)))
+          → P (says (record b { rows = mark_gone b.rows r; desks = set b.desks d (holding (claimed_at n)) }) (Claimed (r % z.ne)))
       won_kind r n q e w = rw q (k.won d r i e w)
 
       claim_kind : (r : ℕ) → desk_at b d ≡ looked r → P (claim_step z b d r)

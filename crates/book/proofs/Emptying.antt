@@ -1,15 +1,7 @@
 -- The owner gets until EMPTY. A get hands over a row that waits, or none waits at all: it moves on from a turn only where no row
 -- of it waits, and comes to turn P at last. So as many gets as rows wait, or more, and one more, leave none, with K at P.
-use Rattle.std.specs.Prelude.{if◌then◌else◌}
-use mathlib.Core.Path.{◌≡◌, refl, ap, ◌∙◌}
-use mathlib.Core.Logic.{◌⊎◌, inl, inr, ⊎_elim}
-use mathlib.Core.Bool.{Bool, true, false, not}
-use mathlib.Core.List.{List, [], ◌∷◌, ◌++◌}
-use Prim.Native.Nat.{ℕ, zero, suc, ◌+◌, ◌-◌, ◌*◌, ◌/◌, ◌≤◌, ◌<◌}
-use native.Mathlib.Nat.{le_of_suc-le-suc, lt-div-mul-add, div-mul-le_self, div-lt_iff_lt-mul, mul-le-mul_right}
-use native.Mathlib.Omega.{arith}
-use lib.Dec.{T, ltb, ltb→lt, nltb→le}
-use lib.ListN.{length, replicate}
+use Rattle.std.proofs.Common.{◌≡◌, ℕ, zero, suc, ◌+◌, ◌-◌, ◌*◌, ◌/◌, ◌<◌, ◌≤◌, Bool, true, false, not, T, ltb, ◌⊎◌, List, [], ◌∷◌, ◌++◌, length, replicate, if◌then◌else◌, refl, ap, ◌∙◌, inl, inr, ⊎_elim, le_of_suc-le-suc, mul-le-mul_right, div-lt_iff_lt-mul, div-mul-le_self, arith, ltb→lt, nltb→le}
+use Rattle.std.proofs.Math.Nat.{lt-div-mul-add}
 use Rattle.words.specs.declared.Answer.{Answer}
 use Rattle.words.specs.declared.Answer.TheVariants.{Refused}
 use Rattle.words.specs.declared.Refusal.TheVariants.{Empty}

@@ -1,10 +1,6 @@
 -- First in, first out. Where no claim is won the rows gone are the first of all, as many as were got, and a get takes the next.
-use mathlib.Core.Path.{◌≡◌, refl, sym, ap, ◌∙◌}
-use mathlib.Core.List.{List, [], ◌∷◌, map}
-use Prim.Native.Nat.{ℕ, zero, suc, ◌+◌, ◌-◌, ◌/◌, ◌≤◌, ◌<◌}
-use native.Mathlib.Omega.{arith}
-use lib.Dec.{T, ltb, eqb, ltb→lt, lt→ltb, nltb→le, eqb→eq}
-use lib.ListN.{length, get_or, set, take, length-map}
+use Rattle.std.proofs.Common.{◌≡◌, ℕ, zero, suc, ◌+◌, ◌-◌, ◌/◌, ◌<◌, ◌≤◌, T, eqb, ltb, List, [], ◌∷◌, map, length, get_or, take, set, sym, refl, ap, ◌∙◌, arith, eqb→eq, ltb→lt, lt→ltb, nltb→le, true≢false, lt-ltb, le-ltb}
+use Rattle.std.proofs.Math.ListN.{length-map}
 use Rattle.book.specs.Choice.{◌<ᵇ◌}
 use Rattle.book.specs.Total.{total, up_from}
 use Rattle.book.specs.Sizes.{Size, is_order}
@@ -13,7 +9,7 @@ use Rattle.book.specs.Book.{Row, Book, Outcome, row_at, desk_at, append, mark_go
 use Rattle.book.specs.Counts.{count, got, won}
 use Rattle.book.specs.Demands.{Counting, Placed, Handed}
 use Rattle.book.specs.Order.{FirstInFirstOut, PlacedInOrder}
-use Rattle.book.proofs.Choice.{true_not_false, by_test, by_verdict, by_order, cases, neq_test, same_test, lt→true, ge→false}
+use Rattle.book.proofs.Choice.{by_test, by_verdict, by_order, cases, neq_test, same_test}
 use Rattle.book.proofs.Turns.{div_mono}
 use Rattle.book.proofs.Total.{replicate_at}
 use Rattle.book.proofs.Rows.{row_turn, first_fits, first_waits, first_in, row_append, mark_other, mark_same}
@@ -75,14 +71,14 @@ module _ (z : Size) where
       next_is : next ≡ g
       next_is =
           by_order next g
-          (λ h. absurd (true_not_false (sym (lt→true next g h) ∙ sym (c.marks next) ∙ first_waits z b.rows (reads z b) w)))
+          (λ h. absurd (true≢false (sym (lt-ltb next g h) ∙ sym (c.marks next) ∙ first_waits z b.rows (reads z b) w)))
           (λ e. e)
-          (λ h. absurd (true_not_false (sym (all_before g h) ∙ c.marks g ∙ ge→false g g (omega arith))))
+          (λ h. absurd (true≢false (sym (all_before g h) ∙ c.marks g ∙ le-ltb g g (omega arith))))
 
       marks_next : (n : ℕ) → (row_at (mark_gone b.rows next) n).gone ≡ (n <ᵇ g + 1)
       marks_next n =
           cases (eqb n next)
-          (λ t. let e = eqb→eq n next t in rw e (mark_same b.rows next (first_in z b.rows (reads z b) w) ∙ sym (lt→true next (g + 1) (omega (arith, next_is)))))
+          (λ t. let e = eqb→eq n next t in rw e (mark_same b.rows next (first_in z b.rows (reads z b) w) ∙ sym (lt-ltb next (g + 1) (omega (arith, next_is)))))
           (λ t. let d = neq_test n next t in
           ap (λ (r : Row). r.gone) (mark_other b.rows next n d) ∙ c.marks n
           ∙ same_test (n <ᵇ g) (n <ᵇ g + 1) (λ l. lt→ltb n (g + 1) (let h = ltb→lt n g l in omega arith)) (λ l. lt→ltb n g (let h = ltb→lt n (g + 1) l in omega (arith, next_is))))
@@ -132,11 +128,7 @@ module _ (z : Size) where
 
   opened_clean : Clean 0 (opened z)
   unfolding opened
-  opened_clean = record { marks = λ n. sym (ge→false n 0 (omega arith)); desks = λ d. rw (replicate_at {A = Desk ℕ} z.t d idle) tt }
-
-map_same : (f g : ℕ → ℕ) → ((n : ℕ) → f n ≡ g n) → (l : List ℕ) → map f l ≡ map g l
-map_same f g h [] = refl
-map_same f g h (n ∷ l) = rw (h n) (ap (λ (m : List ℕ). g n ∷ m) (map_same f g h l))
+  opened_clean = record { marks = λ n. sym (le-ltb n 0 (omega arith)); desks = λ d. rw (replicate_at {A = Desk ℕ} z.t d idle) tt }
 
 pub first_in_first_out : FirstInFirstOut
 unfolding FirstInFirstOut PlacedInOrder Handed Counting Placed
@@ -145,5 +137,5 @@ first_in_first_out z ss h =
     let l = answers z (opened z) ss in
     let rows = run_goes z ss (opened z) (opened_fronts z) 0 (opened_clean z) h in
     let long : 0 + got l ≤ length (labels_of rs) = rw (length-map rs (λ r. r.label)) (omega (arith, counting z ss, placed_rows z ss)) in
-    handed_over z ss ∙ ap (map (λ n. (row_at rs n).label)) rows ∙ map_same _ _ (reads_label rs) (up_from (got l) 0)
+    handed_over z ss ∙ ap (map (λ n. (row_at rs n).label)) rows ∙ (λ i. map (λ n. reads_label rs n i) (up_from (got l) 0))
     ∙ up_reads (labels_of rs) (got l) 0 long ∙ ap (take (got l)) (sym (placed_in_order z ss))

@@ -1,12 +1,8 @@
 -- The marked cases of one step on a fresh book, at every size that fits: no row waits, K and P are 0, and every desk is idle.
-use mathlib.Core.Path.{◌≡◌, refl, ap}
-use mathlib.Core.Bool.{true, false}
-use mathlib.Core.List.{[], ◌∷◌}
-use Prim.Native.Nat.{ℕ, ◌+◌, ◌*◌, ◌<◌}
-use native.Mathlib.Nat.{zero-div}
-use native.Mathlib.Omega.{arith}
-use lib.Dec.{T}
-use lib.Seq.{take-nil, drop-nil}
+use Rattle.std.proofs.Common.{◌≡◌, ℕ, ◌+◌, ◌*◌, ◌<◌, true, false, T, [], ◌∷◌, refl, ap, arith, lt-ltb, le-leb}
+use Rattle.std.proofs.lemmas.Bool.{lt-leb}
+use Rattle.std.proofs.Math.Nat.{zero-div}
+use Rattle.std.proofs.Math.Seq.{take-nil, drop-nil}
 use Rattle.words.specs.declared.Answer.{Answer}
 use Rattle.words.specs.declared.Answer.TheVariants.{Refused}
 use Rattle.words.specs.declared.Refusal.TheVariants.{Owned, Nothing, Notlabel, Empty}
@@ -15,7 +11,7 @@ use Rattle.book.specs.Steps.{Step, look, idle, decode}
 use Rattle.book.specs.Verdicts.{takes, refuses, admitted, lookable, placeable}
 use Rattle.book.specs.Book.{Row, desk_at, gone_before, put_turn, rows_of, written, first, waits, may_put, put_step, put_many, order_step, get_at, get_step, look_step, desk_does, desk_step, does, step, opened, answers, from_opening}
 use Rattle.book.specs.Cases.{fresh, Hold, FreshHold}
-use Rattle.book.proofs.Choice.{T→true, lt→true, le→true, gt→false}
+use Rattle.book.proofs.Choice.{T→true}
 use Rattle.book.proofs.Total.{replicate_at}
 use Rattle.book.proofs.Turns.{current_low}
 use Rattle.book.proofs.Clearing.{limits}
@@ -43,7 +39,7 @@ module _ (z : Size) (f : T (fits z)) where
 
   placed : (a : ℕ) → is_label a ≡ true → may_put z (opened z) a ≡ takes
   unfolding may_put placeable written opened
-  placed a l = rw (l, no_rows (put_turn z []), lt→true 0 z.ne (limits z f).ne) refl
+  placed a l = rw (l, no_rows (put_turn z []), lt-ltb 0 z.ne (limits z f).ne) refl
 
   refused : (a : ℕ) → is_label a ≡ false → may_put z (opened z) a ≡ refuses Notlabel
   unfolding may_put placeable
@@ -55,11 +51,11 @@ module _ (z : Size) (f : T (fits z)) where
 
   admits : (i : ℕ) → i < z.nb → admitted z {A = ℕ} 0 (look i) idle ≡ takes
   unfolding admitted
-  admits i h = rw (gt→false z.t 0 (limits z f).desk, gt→false z.nb i h) refl
+  admits i h = rw (lt-leb z.t 0 (limits z f).desk, lt-leb z.nb i h) refl
 
   owned : (look_step z (opened z) 0 0).answer ≡ Refused Owned 0
   unfolding look_step lookable is_owned opened
-  owned = rw (put_turn_lem, le→true (current_turn z 0 0) 0 (current_low z 0 0)) refl
+  owned = rw (put_turn_lem, le-leb (current_turn z 0 0) 0 (current_low z 0 0)) refl
 
   nothing : (look_step z (opened z) 0 1).answer ≡ Refused Nothing 0
   unfolding look_step lookable is_owned opened

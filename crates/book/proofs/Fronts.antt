@@ -2,15 +2,9 @@
 -- A get takes the first waiting row of a turn, and K moves on only from a turn in which none waits. A look sees the first waiting row
 -- of a turn, and a claim is won only while that row waits: then all rows before it in its turn are gone still.
 -- With it: K ≤ P, P - K ≤ NB - 1, and the round of turn P is below 65,536.
-use mathlib.Core.Path.{◌≡◌, refl, sym, ap, ◌∙◌}
-use mathlib.Core.Logic.{◌⊎◌, inl, inr, ⊎_elim}
-use mathlib.Core.Bool.{true, false, not}
-use mathlib.Core.List.{List, [], ◌∷◌}
-use Prim.Native.Nat.{ℕ, zero, suc, ◌+◌, ◌-◌, ◌*◌, ◌/◌, ◌%◌, ◌≤◌, ◌<◌, zero-le}
-use native.Mathlib.Nat.{div-zero, zero-div, div-add-mod', mod-lt, div-mul-le_self, mul-le-mul_right, not-suc-le-zero, le_of_suc-le-suc, div-lt_iff_lt-mul, lt-div-mul-add, le_trans}
-use native.Mathlib.Omega.{arith}
-use lib.Dec.{T, T_not, ltb, eqb, ltb→lt, nltb→le, eqb→eq, nleb→lt}
-use lib.ListN.{length, set, length-append}
+use Rattle.std.proofs.Common.{◌≡◌, ℕ, zero, suc, ◌+◌, ◌-◌, ◌*◌, ◌/◌, ◌%◌, ◌<◌, ◌≤◌, true, false, not, T, eqb, ltb, ◌⊎◌, List, [], ◌∷◌, length, set, sym, refl, ap, ◌∙◌, inl, inr, ⊎_elim, zero-le, le_trans, le_of_suc-le-suc, not-suc-le-zero, mul-le-mul_right, mod-lt, div-lt_iff_lt-mul, div-add-mod', div-mul-le_self, arith, eqb→eq, ltb→lt, nltb→le, T_not, length-append, true≢false}
+use Rattle.std.proofs.Math.Dec.{nleb→lt}
+use Rattle.std.proofs.Math.Nat.{div-zero, zero-div, lt-div-mul-add}
 use Rattle.words.specs.declared.Refusal.{Refusal}
 use Rattle.book.specs.Choice.{◌<ᵇ◌, ◌≤ᵇ◌}
 use Rattle.book.specs.Sizes.{Size, is_label, is_order, round_of}
@@ -19,7 +13,7 @@ use Rattle.book.specs.Steps.{Step, DeskStep, Deed, decode, Desk, idle, looked, h
 use Rattle.book.specs.Book.{Row, Book, Outcome, row_at, desk_at, append, mark_gone, gone_before, put_turn, row_of, rows_of, written, first, waits, is_busy, may_put, put_step, put_many, order_step, read_turn}
 use Rattle.book.specs.Book.{get_at, get_step, desk_step, does, step, opened, after}
 use Rattle.book.specs.Demands.{GetMoves}
-use Rattle.book.proofs.Choice.{by_test, cases, T→true, true_not_false, neq_test}
+use Rattle.book.proofs.Choice.{by_test, cases, T→true, neq_test}
 use Rattle.book.proofs.Total.{replicate_at}
 use Rattle.book.proofs.Turns.{div_mono, div_next}
 use Rattle.book.proofs.Deeds.{by_deed}
@@ -117,7 +111,7 @@ module _ (z : Size) where
     stays : Grows b b
     stays = record { fronts = f; onward = omega arith; gone = λ n g. g }
 
-    of_desk : (d : ℕ) (x : Desk ℕ) → Seen b.rows x → Grows b (record { rows = b.rows; k = b.k; desks = set b.desks d x })
+    of_desk : (d : ℕ) (x : Desk ℕ) → Seen b.rows x → Grows b (record b { desks = set b.desks d x })
     of_desk d x s = record {
       fronts = record {
         reached = f.reached;
@@ -133,7 +127,7 @@ module _ (z : Size) where
 
     -- K moves on to turn t, below which all rows are gone
     of_move : (t : ℕ) → b.k ≤ t → t ≤ put_turn z b.rows → ((m : ℕ) → m / z.ne < t → Gone b.rows m)
-        → Grows b (record { rows = b.rows; k = t; desks = b.desks })
+        → Grows b (record b { k = t })
     of_move t h l all = record {
       fronts = record { reached = l; near = omega (arith, f.near); rounds = f.rounds; prefix = f.prefix; past = all; seen = f.seen };
       onward = h;
@@ -141,7 +135,7 @@ module _ (z : Size) where
     }
 
     -- row n is marked, all before it in its turn being gone
-    of_mark : (n : ℕ) → Before b.rows n → Grows b (record { rows = mark_gone b.rows n; k = b.k; desks = b.desks })
+    of_mark : (n : ℕ) → Before b.rows n → Grows b (record b { rows = mark_gone b.rows n })
     unfolding put_turn
     of_mark n q =
         let keeps = mark_keeps b.rows n in
@@ -205,7 +199,7 @@ module _ (z : Size) where
         none_waits b.rows (m / z.ne) (read_past (put_turn z b.rows - b.k) b.rows b.k (m / z.ne) (nltb→le (m / z.ne) b.k t) h) pos m refl
         (below_in b.rows m (omega arith) pos))
 
-    moved : Grows b (record { rows = b.rows; k = reads b; desks = b.desks })
+    moved : Grows b (record b { k = reads b })
     moved = of_move b f (reads b) (reads_low b) reads_high reads_past
 
     get_grows : Grows b (get_step z b).book
@@ -326,7 +320,7 @@ module _ (z : Size) where
     reached = zero-le;
     near = rw (zero-div z.ne) zero-le;
     rounds = rw (zero-div z.ne, zero-div z.nb) (omega arith);
-    prefix = λ n g. absurd (true_not_false (sym g));
+    prefix = λ n g. absurd (true≢false (sym g));
     past = λ n h. absurd (omega arith);
     seen = λ d. rw (replicate_at {A = Desk ℕ} z.t d idle) tt;
   }

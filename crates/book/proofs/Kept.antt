@@ -1,15 +1,8 @@
 -- The labels are kept, and not only their number: what leaves, and what a desk holds, are rows of the book; and the labels that
 -- come out, with those held unfetched and those that wait, are the labels placed. It is the law `tallied` of proofs/Counting.antt
 -- once more, each row weighing what its label weighs.
-use Rattle.std.specs.Prelude.{if◌then◌else◌}
-use mathlib.Core.Path.{◌≡◌, refl, ap}
-use mathlib.Core.Bool.{false}
-use mathlib.Core.List.{List, [], ◌∷◌, ◌++◌, map}
-use Prim.Native.Nat.{ℕ, zero, suc, ◌+◌, ◌<◌}
-use native.Mathlib.Nat.{not-suc-le-zero, le_of_suc-le-suc}
-use native.Mathlib.Omega.{arith}
-use lib.Dec.{ltb, ltb→lt, nltb→le}
-use lib.ListN.{length, get_or-eq_default}
+use Rattle.std.proofs.Common.{◌≡◌, ℕ, zero, suc, ◌+◌, ◌<◌, false, ltb, List, [], ◌∷◌, ◌++◌, map, length, if◌then◌else◌, refl, ap, le_of_suc-le-suc, not-suc-le-zero, arith, ltb→lt, nltb→le}
+use Rattle.std.proofs.Math.ListN.{get_or-eq_default}
 use Rattle.book.specs.Total.{total}
 use Rattle.book.specs.Steps.{idle}
 use Rattle.book.specs.Book.{Row, row_at, mark_gone, opened, after, leaves}

@@ -1,14 +1,10 @@
 -- Labels in order. The rows of the book are the labels placed, in order; and the labels that gets hand over are those of the rows got,
 -- which are in order (proofs/Order.antt): so they are the labels placed with others left out.
-use Rattle.std.specs.Prelude.{if◌then◌else◌}
-use mathlib.Core.Path.{◌≡◌, refl, sym, ap, ap₂, ◌∙◌}
-use mathlib.Core.Bool.{false}
-use mathlib.Core.List.{List, [], ◌∷◌, ◌++◌, map, map-append, append-nil, append_assoc}
-use Prim.Native.Nat.{ℕ, zero, suc, ◌+◌, ◌-◌, ◌<◌, zero-le}
-use native.Mathlib.Omega.{arith}
-use lib.Dec.{ltb, ltb→lt, nltb→le}
-use lib.ListN.{length, get_or, length-map, get_or-map, get_or-eq_default}
-use lib.Seq.{map-set_same}
+use Rattle.std.proofs.Common.{◌≡◌, ℕ, zero, suc, ◌+◌, ◌-◌, ◌<◌, false, ltb, List, [], ◌∷◌, ◌++◌, map, length, get_or, if◌then◌else◌, sym, refl, ap, ◌∙◌, ap₂, append_assoc, append-nil, zero-le, arith, ltb→lt, nltb→le, true≢false}
+use Rattle.std.specs.List.{AllByRecursion as All}
+use Rattle.std.proofs.Math.ListN.{length-map, get_or-map, get_or-eq_default}
+use Rattle.std.proofs.Math.Seq.{map-set_same}
+use Rattle.std.proofs.lemmas.List.{map-append}
 use Rattle.book.specs.Choice.{◌≡ᵇ◌}
 use Rattle.book.specs.Sizes.{Size, within, is_order}
 use Rattle.book.specs.Steps.{Step, Deed, put, get, order, desk, unlisted, decode}
@@ -16,12 +12,12 @@ use Rattle.book.specs.Total.{up_from}
 use Rattle.book.specs.Book.{Row, Book, Outcome, row_at, append, mark_gone, waits, may_put, put_step, put_many, order_step, get_at, get_step, does, step, opened, answers, after}
 use Rattle.book.specs.Counts.{count}
 use Rattle.book.specs.Order.{placed_labels, got_labels, got_rows, PlacedInOrder, GotInOrder}
-use Rattle.book.proofs.Choice.{true_not_false, by_test, by_test₂, by_verdict, cases}
+use Rattle.book.proofs.Choice.{by_test, by_test₂, by_verdict, cases}
 use Rattle.book.proofs.Counting.{Fair, Reads, does_kept, run_kept, opened_fair}
 use Rattle.book.proofs.DeskKinds.{desk_kind}
 use Rattle.book.proofs.Fronts.{Gone, Fronts, reads, step_grows, run_grows, opened_fronts}
 use Rattle.book.proofs.Order.{step_gets, run_got}
-use Rattle.book.proofs.Rising.{All, all_map, all_append, picked}
+use Rattle.book.proofs.Rising.{all_map, all_append, picked}
 
 -- ---- the labels placed
 
@@ -141,7 +137,7 @@ module _ (z : Size) where
 gone_in : (rs : List Row) (n : ℕ) → Gone rs n → n < length rs
 gone_in rs n g =
     cases (ltb n (length rs)) (λ t. ltb→lt n (length rs) t)
-    (λ t. absurd (true_not_false (sym g ∙ ap (λ (r : Row). r.gone) (get_or-eq_default rs _ (nltb→le n (length rs) t)))))
+    (λ t. absurd (true≢false (sym g ∙ ap (λ (r : Row). r.gone) (get_or-eq_default rs _ (nltb→le n (length rs) t)))))
 
 pub got_in_order : GotInOrder
 unfolding GotInOrder PlacedInOrder

@@ -1,24 +1,20 @@
 -- Order is kept. In a turn the rows gone are its first (proofs/Fronts.antt), so a row that waits stands after all that are gone.
 -- A row that goes later waits now: so within one turn it is larger. And what a get hands over later is of this turn K or of a later one:
 -- so it is larger too.
-use mathlib.Core.Path.{◌≡◌, sym, ◌∙◌}
-use mathlib.Core.Bool.{Bool, false, not, ◌&&◌}
-use mathlib.Core.List.{List, [], ◌∷◌, ◌++◌}
-use Prim.Native.Nat.{ℕ, suc, ◌/◌, ◌≤◌, ◌<◌, zero-le}
-use native.Mathlib.Omega.{arith}
-use lib.Dec.{T, ltb, eqb, ltb→lt, nltb→le, eqb→eq}
-use lib.ListN.{length}
+use Rattle.std.proofs.Common.{◌≡◌, ℕ, suc, ◌/◌, ◌<◌, ◌≤◌, Bool, false, not, ◌&&◌, T, eqb, ltb, List, [], ◌∷◌, ◌++◌, length, sym, ◌∙◌, zero-le, arith, eqb→eq, ltb→lt, nltb→le, true≢false, filter}
+use Rattle.std.specs.List.{AllByRecursion as All}
+use Rattle.std.proofs.lemmas.List.Elements.{filter-append}
 use Rattle.book.specs.Choice.{◌≡ᵇ◌}
 use Rattle.book.specs.Sizes.{Size}
 use Rattle.book.specs.Steps.{Step, decode}
 use Rattle.book.specs.Total.{up_from}
 use Rattle.book.specs.Book.{Row, Book, Outcome, row_at, row_of, first, waits, get_at, get_step, does, step, opened}
-use Rattle.book.specs.Order.{filter, went_by, went_rows, got_rows, GetsInOrder, GoesInOrder}
-use Rattle.book.proofs.Choice.{by_test, cases, T→true, not→false, true_not_false, and_first, and_second, neq_test}
+use Rattle.book.specs.Order.{went_by, went_rows, got_rows, GetsInOrder, GoesInOrder}
+use Rattle.book.proofs.Choice.{by_test, cases, T→true, not→false, and_first, and_second, neq_test}
 use Rattle.book.proofs.Turns.{div_mono}
 use Rattle.book.proofs.Rows.{row_turn, first_fits, first_waits, first_in, mark_same}
 use Rattle.book.proofs.Fronts.{Gone, Fronts, Grows, reads, reads_low, step_grows, opened_fronts}
-use Rattle.book.proofs.Rising.{RisesFrom, All, increasing, rises_from, rises_on, all_map, all_both, up_rises, filter_append, filter_rise, filter_pass, filter_keep}
+use Rattle.book.proofs.Rising.{RisesFrom, increasing, rises_from, rises_on, all_map, all_both, up_rises, filter_rise, filter_pass, filter_keep}
 
 -- ---- waiting, and gone
 
@@ -26,7 +22,7 @@ abbrev Waits : List Row → ℕ → Type 0
 Waits rs n = (row_at rs n).gone ≡ false
 
 not_both : (rs : List Row) (n : ℕ) → Gone rs n → Waits rs n → ⊥
-not_both rs n g w = true_not_false (sym g ∙ w)
+not_both rs n g w = true≢false (sym g ∙ w)
 
 module _ (z : Size) where
   -- of two rows of one turn the one that waits stands after the one that is gone
@@ -76,7 +72,7 @@ module _ (z : Size) where
   -- a bounds the rows of turn t that wait, and so those that will go
   run_went : (ss : List Step) (b : Book) → Fronts z b → (t a : ℕ) → ((m : ℕ) → m / z.ne ≡ t → Waits b.rows m → a ≤ m)
       → RisesFrom a (filter (of_turn t) (went_rows z b ss))
-  unfolding went_rows filter
+  unfolding went_rows
   run_went [] b f t a h = tt
   run_went (s ∷ ss) b f t a h =
       let c = (step z b s).book in
@@ -84,7 +80,7 @@ module _ (z : Size) where
       let now = filter (of_turn t) (went_by b.rows c.rows) in
       let rest = filter (of_turn t) (went_rows z c ss) in
       let went = went_by_lem t b.rows c.rows in
-      rw (filter_append (of_turn t) (went_by b.rows c.rows) (went_rows z c ss)) (rises_on a now rest
+      rw (filter-append (of_turn t) (went_by b.rows c.rows) (went_rows z c ss)) (rises_on a now rest
       (rises_from a 0 now (filter_rise (of_turn t) 0 (went_by b.rows c.rows) (went_rises b.rows c.rows)) (all_map _ (λ n. a ≤ n) (λ n w. h n w.here w.waits_before) now went))
       (all_map _ (λ n. RisesFrom (suc n) rest)
       (λ n w. run_went ss c g.fronts t (suc n) (λ m e v. gone_first c g.fronts n m w.gone_after v (e ∙ sym w.here))) now went)

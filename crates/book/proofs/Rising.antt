@@ -1,26 +1,17 @@
 -- Laws of lists that rise: each number larger than the one before it.
-use mathlib.Core.Path.{◌≡◌, refl, ap}
-use mathlib.Core.Bool.{Bool}
+use Rattle.std.proofs.Common.{◌≡◌, ℕ, zero, suc, ◌+◌, ◌<◌, ◌≤◌, Bool, T, List, [], ◌∷◌, ◌++◌, map, length, get_or, take, drop, refl, ap, le_trans, le_of_suc-le-suc, arith, drop-cons, filter}
+use Rattle.std.specs.List.{AllByRecursion as All}
+use Rattle.std.proofs.Math.Seq.{drop-nil}
+use mathlib.Core.List.{Sublistᴰ}
 use mathlib.Core.List.Sublistᴰ
-use mathlib.Core.List.{List, [], ◌∷◌, ◌++◌, map, Sublistᴰ}
-use Prim.Native.Nat.{ℕ, zero, suc, ◌+◌, ◌≤◌, ◌<◌}
-use native.Mathlib.Nat.{le_of_suc-le-suc, le_trans}
-use native.Mathlib.Omega.{arith}
-use lib.Dec.{T}
-use lib.ListN.{length, get_or, take, drop}
-use lib.Seq.{drop-cons, drop-nil}
 use Rattle.book.specs.Total.{up_from}
-use Rattle.book.specs.Order.{Increasing, filter}
-use Rattle.book.proofs.Choice.{by_test, cases, choose_true, choose_false}
+use Rattle.book.specs.Order.{Increasing}
+use Rattle.book.proofs.Choice.{by_test}
 
 -- each is at least a, and larger than the one before it
 abbrev pub RisesFrom : ℕ → List ℕ → Type 0
 RisesFrom a [] = Unit {0}
 RisesFrom a (n ∷ l) = (a ≤ n) × RisesFrom (suc n) l
-
-abbrev pub All : (ℕ → Type 0) → List ℕ → Type 0
-All Q [] = Unit {0}
-All Q (n ∷ l) = Q n × All Q l
 
 pub increasing : (a : ℕ) (l : List ℕ) → RisesFrom a l → Increasing l
 increasing a [] r = tt
@@ -69,29 +60,17 @@ up_reads l (suc n) a h = rw (drop-cons l a 0 (omega arith)) (ap (λ (m : List �
 -- ---- those that pass a test
 
 module _ (p : ℕ → Bool) where
-  pub filter_append : (l m : List ℕ) → filter p (l ++ m) ≡ filter p l ++ filter p m
-  unfolding filter
-  filter_append [] m = refl
-  filter_append (n ∷ l) m =
-      let r = filter_append l m in
-      cases (p n)
-      (λ t. rw (choose_true (p n) (n ∷ filter p (l ++ m)) (filter p (l ++ m)) t, choose_true (p n) (n ∷ filter p l) (filter p l) t) (ap (λ (x : List ℕ). n ∷ x) r))
-      (λ t. rw (choose_false (p n) (n ∷ filter p (l ++ m)) (filter p (l ++ m)) t, choose_false (p n) (n ∷ filter p l) (filter p l) t) r)
-
   pub filter_rise : (a : ℕ) (l : List ℕ) → RisesFrom a l → RisesFrom a (filter p l)
-  unfolding filter
   filter_rise a [] r = tt
   filter_rise a (n ∷ l) r =
       let s = filter_rise (suc n) l r.1 in
       by_test (RisesFrom a) (p n) (λ _. (r.0, s)) (λ _. rises_lower (suc n) a (filter p l) (omega (arith, r.0)) s)
 
   pub filter_pass : (l : List ℕ) → All (λ n. T (p n)) (filter p l)
-  unfolding filter
   filter_pass [] = tt
   filter_pass (n ∷ l) = by_test (All (λ n. T (p n))) (p n) (λ t. (t, filter_pass l)) (λ _. filter_pass l)
 
   pub filter_keep : (Q : ℕ → Type 0) (l : List ℕ) → All Q l → All Q (filter p l)
-  unfolding filter
   filter_keep Q [] h = tt
   filter_keep Q (n ∷ l) h = by_test (All Q) (p n) (λ _. (h.0, filter_keep Q l h.1)) (λ _. filter_keep Q l h.1)
 

@@ -1,15 +1,7 @@
 -- Laws of the book's rows: the first waiting row of a turn, one more row, a mark, the turn that a get reads.
-use mathlib.Core.Path.{◌≡◌, refl, ap, ◌∙◌}
-use mathlib.Core.Logic.{◌≢◌}
-use mathlib.Core.Bool.{true, false}
-use mathlib.Core.List.{List, [], ◌∷◌, ◌++◌}
-use Prim.Native.Nat.{ℕ, zero, suc, ◌+◌, ◌-◌, ◌*◌, ◌/◌, ◌≤◌, ◌<◌, suc-le-suc, min}
-use native.Mathlib.Nat.{not-suc-le-zero, le_of_suc-le-suc}
-use native.Mathlib.Omega.{arith}
-use lib.Dec.{T, ltb, eqb, ltb→lt, eqb→eq, leb-suc-suc, leb-zero}
-use lib.ListN.{length, drop, length-set, length-take, length-drop}
-use lib.Seq.{get_or-take, get_or-drop, get_or-set_same, get_or-set_other}
-use lib.Arith.{digits_div}
+use Rattle.std.proofs.Common.{◌≡◌, ℕ, zero, suc, ◌+◌, ◌-◌, ◌*◌, ◌/◌, ◌<◌, ◌≤◌, min, true, false, T, eqb, ltb, ◌≢◌, List, [], ◌∷◌, ◌++◌, length, drop, refl, ap, ◌∙◌, suc-le-suc, le_of_suc-le-suc, not-suc-le-zero, arith, eqb→eq, ltb→lt, length-drop, length-set, length-take, get_or-drop, get_or-set_other, get_or-take, get_or-set_same}
+use Rattle.std.proofs.Math.Arith.{digits_div}
+use Rattle.std.proofs.Math.Dec.{leb-suc-suc, leb-zero}
 use Rattle.book.specs.Sizes.{Size}
 use Rattle.book.specs.Book.{Row, row_at, mark_gone, gone_before, row_of, rows_of, written, first, waits, read_turn}
 use Rattle.book.proofs.Choice.{by_test, cases, not→false, neq_test}

@@ -1,14 +1,8 @@
 -- The desks in turn fetch what they have claimed and finish what they have fetched: then no desk holds a row, and rows and K are as
 -- they were. The desks below d have done so, and those from d on are the list that is left.
-use mathlib.Core.Path.{◌≡◌, refl, sym, ap, ◌∙◌}
-use mathlib.Core.Bool.{not}
-use mathlib.Core.List.{List, [], ◌∷◌, ◌++◌, map}
-use Prim.Native.Nat.{ℕ, zero, suc, ◌+◌, ◌*◌, ◌≤◌, ◌<◌}
-use native.Mathlib.Nat.{not-suc-le-zero, le_of_suc-le-suc}
-use native.Mathlib.Omega.{arith}
-use lib.Dec.{T, ltb, eqb, ltb→lt, nltb→le, eqb→eq}
-use lib.ListN.{length, get_or, length-set, get_or-eq_default}
-use lib.Seq.{get_or-set_same, get_or-set_other}
+use Rattle.std.proofs.Common.{◌≡◌, ℕ, zero, suc, ◌+◌, ◌*◌, ◌<◌, ◌≤◌, not, T, eqb, ltb, List, [], ◌∷◌, ◌++◌, map, length, get_or, sym, refl, ap, ◌∙◌, le_of_suc-le-suc, not-suc-le-zero, arith, eqb→eq, ltb→lt, nltb→le, length-set, get_or-set_other, get_or-set_same}
+use Rattle.std.proofs.lemmas.Bool.{lt-leb}
+use Rattle.std.proofs.Math.ListN.{get_or-eq_default}
 use Rattle.book.specs.Total.{up_from}
 use Rattle.book.specs.Sizes.{Size}
 use Rattle.book.specs.Steps.{fetch, finish, Deed, desk, unlisted, decode, Hold, Desk, idle, looked, holding, with_fetched, is_fetched}
@@ -16,7 +10,7 @@ use Rattle.book.specs.Verdicts.{admitted}
 use Rattle.book.specs.Book.{Book, desk_at, with_desk, fetch_step, finish_step, desk_does, desk_step, does, step, after}
 use Rattle.book.specs.Messages as M
 use Rattle.book.specs.Clearing.{settling}
-use Rattle.book.proofs.Choice.{by_test, cases, neq_test, T→true, not→false, gt→false}
+use Rattle.book.proofs.Choice.{by_test, cases, neq_test, T→true, not→false}
 use Rattle.book.proofs.DeskKinds.{Free}
 
 -- ---- the codes of a fetch and a finish
@@ -54,11 +48,11 @@ module _ (z : Size) (few : z.t ≤ 16) where
   module _ (b : Book) (d : ℕ) (h : Hold ℕ) (i : d < z.t) (e : desk_at b d ≡ holding h) where
     step_fetch : T (not (is_fetched h)) → (step z b (M.fetch d)).book ≡ with_desk b d (holding (with_fetched h))
     unfolding step does desk_step admitted desk_does fetch_step
-    step_fetch u = rw (decode_fetch d (omega arith), e, gt→false z.t d i, not→false (is_fetched h) u) refl
+    step_fetch u = rw (decode_fetch d (omega arith), e, lt-leb z.t d i, not→false (is_fetched h) u) refl
 
     step_finish : T (is_fetched h) → (step z b (M.finish d)).book ≡ with_desk b d idle
     unfolding step does desk_step admitted desk_does finish_step
-    step_finish f = rw (decode_finish d (omega arith), e, gt→false z.t d i, T→true (is_fetched h) f) refl
+    step_finish f = rw (decode_finish d (omega arith), e, lt-leb z.t d i, T→true (is_fetched h) f) refl
 
   -- ---- the walk over the desks
 

@@ -1,15 +1,7 @@
 -- Laws of sums and searches over a list.
-use Rattle.std.specs.Prelude.{if◌then◌else◌}
-use mathlib.Core.Path.{◌≡◌, refl, sym, ap, ◌∙◌}
-use mathlib.Core.Bool.{Bool}
-use mathlib.Core.List.{List, [], ◌∷◌, ◌++◌}
-use Prim.Native.Nat.{ℕ, zero, suc, ◌+◌, ◌≤◌, ◌<◌}
-use native.Mathlib.Nat.{not-suc-le-zero, le_of_suc-le-suc}
-use native.Mathlib.Omega.{arith}
-use lib.Dec.{T, ltb}
-use lib.ListN.{length, get_or, set, replicate}
+use Rattle.std.proofs.Common.{◌≡◌, ℕ, zero, suc, ◌+◌, ◌<◌, ◌≤◌, Bool, T, ltb, List, [], ◌∷◌, ◌++◌, length, get_or, set, replicate, if◌then◌else◌, sym, refl, ap, ◌∙◌, le_of_suc-le-suc, not-suc-le-zero, arith, lt-ltb}
 use Rattle.book.specs.Total.{total, any}
-use Rattle.book.proofs.Choice.{cases, T→true, not→false, lt→true}
+use Rattle.book.proofs.Choice.{cases, T→true, not→false}
 
 module _ {A : Type 0} where
   pub total_append : (f : A → ℕ) (l m : List A) → total f (l ++ m) ≡ total f l + total f m
@@ -29,9 +21,7 @@ module _ {A : Type 0} where
   total_mono f g h (x ∷ xs) = let r = total_mono f g h xs in omega (arith, h x)
 
   pub total_cong : (f g : A → ℕ) → ((x : A) → f x ≡ g x) → (l : List A) → total f l ≡ total g l
-  unfolding total
-  total_cong f g h [] = refl
-  total_cong f g h (x ∷ xs) = let r = total_cong f g h xs in omega (arith, h x)
+  total_cong f g h l = λ i. total (λ x. h x i) l
 
   -- where each counts at most 1, the total is at most the length; and less where one of them counts 0
   pub total_le : (f : A → ℕ) → ((x : A) → f x ≤ 1) → (l : List A) → total f l ≤ length l
@@ -69,7 +59,7 @@ module _ {A : Type 0} where
   any_total f (x ∷ xs) =
       let n = total (λ (y : A). if f y then 1 else 0) xs in
       cases (f x)
-      (λ s. rw (T→true (f x) s) (sym (lt→true 0 (1 + n) (omega arith))))
+      (λ s. rw (T→true (f x) s) (sym (lt-ltb 0 (1 + n) (omega arith))))
       (λ s. rw (not→false (f x) s) (any_total f xs ∙ ap (ltb 0) (let e : n ≡ 0 + n = omega arith in e)))
 
   -- and then it stands somewhere

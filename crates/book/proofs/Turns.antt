@@ -1,11 +1,8 @@
 -- Turns and blocks: arithmetic of t % NB, and of the rows t * NE + place.
-use mathlib.Core.Path.{◌≡◌, sym, ap, ◌∙◌}
-use mathlib.Core.Logic.{◌≢◌}
-use Prim.Native.Nat.{ℕ, zero, suc, ◌+◌, ◌-◌, ◌*◌, ◌/◌, ◌%◌, ◌≤◌, ◌<◌, zero-le}
-use native.Mathlib.Nat.{div-zero, le-div_iff_mul-le, div-lt_iff_lt-mul, lt-div-mul-add, div-mul-le_self, le_trans, div-add-mod', mod-lt, mul-le-mul_right, mod-eq_of_lt, add-mul-mod_self_right}
-use native.Mathlib.Omega.{arith}
-use lib.Dec.{ltb, eqb, ltb→lt, lt→ltb, nltb→le, leb→le, nleb→lt, eqb→eq}
-use lib.Arith.{digits_div, digits_mod}
+use Rattle.std.proofs.Common.{◌≡◌, ℕ, zero, suc, ◌+◌, ◌-◌, ◌*◌, ◌/◌, ◌%◌, ◌<◌, ◌≤◌, eqb, ltb, ◌≢◌, sym, ap, ◌∙◌, zero-le, le_trans, mul-le-mul_right, mod-lt, mod-eq_of_lt, div-lt_iff_lt-mul, div-add-mod', le-div_iff_mul-le, div-mul-le_self, arith, eqb→eq, ltb→lt, lt→ltb, leb→le, nltb→le}
+use Rattle.std.proofs.Math.Arith.{digits_div, digits_mod}
+use Rattle.std.proofs.Math.Dec.{nleb→lt}
+use Rattle.std.proofs.Math.Nat.{div-zero, lt-div-mul-add, add-mul-mod_self_right}
 use Rattle.book.specs.Sizes.{Size, block_of, current_turn}
 use Rattle.book.specs.Book.{row_of}
 use Rattle.book.specs.Demands.{CurrentTurn}

@@ -1,12 +1,8 @@
 -- Put and get by turns, NB 2 and NE 1: n times lead from opening to the book `by_turns n`, every put being placed while n is below
 -- 131,072. Row n is then the one row of turn n: the put starts turn n, and the get moves K on to it.
-use mathlib.Core.Path.{◌≡◌, refl, ap, ◌∙◌}
-use mathlib.Core.Bool.{true, false}
-use mathlib.Core.List.{List, [], ◌∷◌, ◌++◌}
-use Prim.Native.Nat.{ℕ, zero, suc, ◌+◌, ◌-◌, ◌*◌, ◌≤◌, ◌<◌}
-use native.Mathlib.Nat.{div-one, div-lt_iff_lt-mul}
-use native.Mathlib.Omega.{arith}
-use lib.ListN.{length, drop, replicate, length-replicate, length-append}
+use Rattle.std.proofs.Common.{◌≡◌, ℕ, zero, suc, ◌+◌, ◌-◌, ◌*◌, ◌<◌, ◌≤◌, true, false, List, [], ◌∷◌, ◌++◌, length, drop, replicate, refl, ap, ◌∙◌, div-lt_iff_lt-mul, div-one, arith, length-append}
+use Rattle.std.proofs.lemmas.Bool.{lt-leb}
+use Rattle.std.proofs.Math.ListN.{length-replicate}
 use Rattle.words.specs.declared.Answer.{Answer}
 use Rattle.words.specs.declared.Answer.TheVariants.{Put, Got}
 use Rattle.book.specs.Choice.{◌<ᵇ◌}
@@ -17,7 +13,7 @@ use Rattle.book.specs.Verdicts.{takes, startable, placeable}
 use Rattle.book.specs.Book.{Row, row_at, says, append, hands, mark_gone, gone_before, put_turn, rows_of, written, first, waits, held_in, is_busy, may_put, put_step, read_turn, get_at, get_step, does, step, opened, answers, after}
 use Rattle.book.specs.Messages as M
 use Rattle.book.specs.WornCases.{by_turns, put_and_get, placed_and_got}
-use Rattle.book.proofs.Choice.{choose_same, gt→false}
+use Rattle.book.proofs.Choice.{choose_same}
 use Rattle.book.proofs.Rows.{written_is}
 
 abbrev z : Size
@@ -56,7 +52,7 @@ mark_last (suc m) = ap (λ (rs : List Row). gone ∷ rs) (mark_last m)
 started : (k n : ℕ) → n < 131072 → n - 2 < k → startable z k false n ≡ takes
 unfolding startable
 started k n h l =
-    rw (gt→false 65536 (round_of z n) ((div-lt_iff_lt-mul {k = 2} {x = n} {y = 65536} (omega arith)).1 (omega arith)), gt→false k (n - 2) l) (choose_same (n <ᵇ 2) takes)
+    rw (lt-leb 65536 (round_of z n) ((div-lt_iff_lt-mul {k = 2} {x = n} {y = 65536} (omega arith)).1 (omega arith)), lt-leb k (n - 2) l) (choose_same (n <ᵇ 2) takes)
 
 put_turn_lem : (rs : List Row) (m : ℕ) → length rs ≡ suc m → put_turn z rs ≡ m
 unfolding put_turn

@@ -45,13 +45,13 @@ abbrev pub desk_at : Book → ℕ → Desk ℕ
 desk_at b d = get_or b.desks d idle
 
 abbrev pub with_desk : Book → ℕ → Desk ℕ → Book
-with_desk b d x = record { rows = b.rows; k = b.k; desks = set b.desks d x }
+with_desk b d x = record b { desks = set b.desks d x }
 
 abbrev pub append : Book → ℕ → Book
-append b a = record { rows = b.rows ++ (record { label = a; gone = false } ∷ []); k = b.k; desks = b.desks }
+append b a = record b { rows = b.rows ++ (record { label = a; gone = false } ∷ []) }
 
 unfoldable pub mark_gone : List Row → ℕ → List Row
-mark_gone rs n = set rs n (record { label = (row_at rs n).label; gone = true })
+mark_gone rs n = set rs n (record (row_at rs n) { gone = true })
 
 -- how many rows stand before the first that waits
 unfoldable pub gone_before : List Row → ℕ
@@ -121,8 +121,8 @@ module _ (z : Size) where
   get_at b t =
       let n = row_of t (first b.rows t) in
       if waits b.rows t
-      then hands (record { rows = mark_gone b.rows n; k = t; desks = b.desks }) (Got (row_at b.rows n).label) n
-      else says (record { rows = b.rows; k = t; desks = b.desks }) (Refused Empty 0)
+      then hands (record b { rows = mark_gone b.rows n; k = t }) (Got (row_at b.rows n).label) n
+      else says (record b { k = t }) (Refused Empty 0)
 
   unfoldable pub get_step : Book → Outcome
   get_step b = get_at b (read_turn (put_turn b.rows - b.k) b.rows b.k)
@@ -144,7 +144,7 @@ module _ (z : Size) where
   unfoldable pub claim_step : Book → ℕ → ℕ → Outcome
   claim_step b d r =
       if winnable b.rows b.k r
-      then says (record { rows = mark_gone b.rows r; k = b.k; desks = set b.desks d (holding (claimed_at r)) }) (Claimed (r % z.ne))
+      then says (record b { rows = mark_gone b.rows r; desks = set b.desks d (holding (claimed_at r)) }) (Claimed (r % z.ne))
       else says (with_desk b d idle) (Refused Lost 0)
 
   unfoldable pub fetch_step : Book → ℕ → Hold ℕ → Outcome

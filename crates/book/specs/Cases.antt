@@ -52,7 +52,7 @@ unfit nb ne t = record { size = sized nb ne t; steps = put 1 ∷ get ∷ []; ans
 
 -- where the bound is n
 abbrev pub bounded : ℕ → Case → Case
-bounded n c = record { size = c.size; steps = c.steps; answers = c.answers; bound = bound_is n }
+bounded n c = record c { bound = bound_is n }
 
 -- ---- marked in "Either side of the line", with the listing
 

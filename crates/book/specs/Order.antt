@@ -1,7 +1,7 @@
 -- Order is kept: in every run from opening, for every size and every list of steps, labels come out in the order they went
 -- in. proofs/ has a proof of each statement, under the same name in small letters.
-use Rattle.std.specs.Prelude.{◌≡◌, Bool, not, ◌&&◌, ℕ, ◌/◌, ◌<◌, length, take, if◌then◌else◌}
-use mathlib.Core.List.{List, [], ◌∷◌, ◌++◌, map, Sublistᴰ as Sublist}
+use Rattle.std.specs.Prelude.{◌≡◌, not, ◌&&◌, List, [], ◌∷◌, ◌++◌, map, ℕ, ◌/◌, ◌<◌, filter, length, take, if◌then◌else◌}
+use mathlib.Core.List.{Sublistᴰ as Sublist}
 use Rattle.words.specs.declared.Answer.{Answer}
 use Rattle.book.specs.Choice.{◌≡ᵇ◌}
 use Rattle.book.specs.Sizes.{Size}
@@ -15,11 +15,6 @@ abbrev pub Increasing : List ℕ → Type 0
 Increasing [] = Unit {0}
 Increasing (n ∷ []) = Unit {0}
 Increasing (n ∷ m ∷ l) = (n < m) × Increasing (m ∷ l)
-
--- those of a list that pass a test
-unfoldable pub filter : (ℕ → Bool) → List ℕ → List ℕ
-filter p [] = []
-filter p (n ∷ l) = let more = filter p l in if p n then n ∷ more else more
 
 -- the rows that go: waiting before, and gone after
 unfoldable pub went_by : List Row → List Row → List ℕ

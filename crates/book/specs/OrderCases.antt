@@ -1,13 +1,13 @@
 -- Runs with the rows that gets hand over and the rows that go, the labels that come out and go in, and the run that clears what
 -- is left, with its answers.
-use Rattle.std.specs.Prelude.{◌≡◌, List, [], ◌∷◌, ◌++◌, ℕ, ◌/◌}
+use Rattle.std.specs.Prelude.{◌≡◌, List, [], ◌∷◌, ◌++◌, ℕ, ◌/◌, filter}
 use Rattle.words.specs.declared.Answer.{Answer}
 use Rattle.words.specs.declared.Answer.TheVariants.{Put, Got, Took, Whole, Seen, Claimed, Done}
 use Rattle.words.specs.declared.Refusal.TheVariants.{Empty}
 use Rattle.book.specs.Choice.{◌≡ᵇ◌}
 use Rattle.book.specs.Steps.{Step}
 use Rattle.book.specs.Book.{opened, answers, after}
-use Rattle.book.specs.Order.{Increasing, filter, got_rows, went_rows, got_labels, placed_labels}
+use Rattle.book.specs.Order.{Increasing, got_rows, went_rows, got_labels, placed_labels}
 use Rattle.book.specs.Clearing.{clearing}
 use Rattle.book.specs.Messages.{put, get, order, claim, fetch, finish, look}
 use Rattle.book.specs.Cases.{Case, ◌⇒◌, no, on, listing}

@@ -1,7 +1,11 @@
 -- The numbers of a line, their limits, and where a turn stands.
 use Rattle.std.specs.Prelude.{Bool, ◌&&◌, ℕ, ◌-◌, ◌/◌, ◌%◌}
 use Rattle.book.specs.Choice.{◌≤ᵇ◌}
-pub use Rattle.book.specs.declared.Size.{Size}
+use Rattle.book.specs.declared.Size as Declared
+
+-- NB blocks, NE entries a block, T desks
+abbrev pub Size : Type 0
+Size = Declared.Size
 
 abbrev pub sized : ℕ → ℕ → ℕ → Size
 sized nb ne t = record { nb = nb; ne = ne; t = t }

@@ -43,7 +43,7 @@ module _ {A : Type 0} where
   claimed_at x = record { at = x; fetched = false }
 
   abbrev pub with_fetched : Hold A → Hold A
-  with_fetched h = record { at = h.at; fetched = true }
+  with_fetched h = record h { fetched = true }
 
   abbrev pub is_fetched : Hold A → Bool
   is_fetched h = h.fetched

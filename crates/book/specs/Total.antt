@@ -1,5 +1,6 @@
 -- Sums and searches over a list, and a list of numbers.
-use Rattle.std.specs.Prelude.{Bool, true, false, ◌&&◌, ◌||◌, List, [], ◌∷◌, ℕ, zero, suc, ◌+◌}
+use Rattle.std.specs.Prelude.{Bool, List, [], ◌∷◌, ℕ, zero, suc, ◌+◌}
+use Rattle.std.specs.List.{list_any, list_all}
 
 -- n numbers, from a on
 abbrev pub up_from : ℕ → ℕ → List ℕ
@@ -12,9 +13,7 @@ module _ {A : Type 0} where
   total f (x ∷ xs) = f x + total f xs
 
   unfoldable pub any : (A → Bool) → List A → Bool
-  any f [] = false
-  any f (x ∷ xs) = f x || any f xs
+  any = list_any
 
   unfoldable pub all : (A → Bool) → List A → Bool
-  all f [] = true
-  all f (x ∷ xs) = f x && all f xs
+  all = list_all

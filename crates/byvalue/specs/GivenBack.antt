@@ -5,11 +5,9 @@ use Rattle.words.specs.declared.Answer.{Answer}
 use Rattle.book.specs.Choice.{◌≤ᵇ◌}
 use Rattle.line.specs.declared.Block.{Block}
 use Rattle.line.specs.declared.Head.{Head}
-use Rattle.line.specs.declared.Opening.{Opening}
 use Rattle.line.specs.Line.{Line, Outcome}
-use Rattle.line.specs.Calls.{Opened}
+use Rattle.line.specs.Calls.{Opening, Opened}
 use Rattle.byvalue.specs.declared.Outcome.{Outcome as OutcomeByValue}
-use Rattle.byvalue.specs.declared.OpeningOutcome.{OpeningOutcome}
 
 -- the lent records put back in front of the others
 unfoldable pub put_back : List Block → ℕ → List Block → List Block
@@ -28,18 +26,13 @@ given a h t es = record { answer = a; head = h; table = t; entries = es }
 abbrev pub line_back : {A : Type 0} → List Block → ℕ → Line → A → Given A
 line_back t n l a = given a l.head (put_back t n l.table) l.entries
 
--- ---- of a step or an order
-
-abbrev pub given_back : OutcomeByValue → List ℕ → Given Answer
+abbrev pub given_back : {A : Type 0} → OutcomeByValue A → List ℕ → Given A
 given_back r es = given r.answer r.head r.table es
+
+-- ---- what the line's definitions give, on the line that was lent: of a step or an order, and of opening
 
 abbrev pub back_of : List Block → ℕ → Outcome → Given Answer
 back_of t n o = line_back t n o.line o.answer
-
--- ---- of opening
-
-abbrev pub begun : OpeningOutcome → List ℕ → Given Opening
-begun r es = given r.answer r.head r.table es
 
 abbrev pub began : List Block → ℕ → Opened → Given Opening
 began t n o = line_back t n o.line o.answer

@@ -3,9 +3,9 @@
 // A line by value: the head, a table of 64 records of which the first n were lent, and the entries, which
 // are changed in place.
 //
-// Here is what every step by value shares: what it gives (`Outcome`, `OpeningOutcome`), where a place stands
-// among the entries (`entries`), and the records of a line that is opened. specs/Lent.antt says which line is lent, specs/GivenBack.antt what is given back, and
-// specs/Ready.antt what the check has shown.
+// Here is what every call by value shares: what it gives (`Outcome`), where a place stands among the entries
+// (`entries`), and the records of a line that is opened. specs/Lent.antt says which line is lent,
+// specs/GivenBack.antt what is given back, and specs/Ready.antt what the check has shown.
 pub mod entries;
 
 ghost use Rattle.std.specs.Prelude.{◌≡◌, replicate};
@@ -13,23 +13,29 @@ ghost use Rattle.book.specs.Steps.{idle as idle_desk};
 ghost use Rattle.book.specs.Sizes.{sized};
 ghost use Rattle.line.specs.Line.{numbers_of, unused as unused_block, opened};
 
-use line::{Block, Desk, Head, Opening};
-use words::Answer;
+use book::Size;
+use line::{Block, Desk, Head};
+use words::{Answer, Refusal};
 
-// What a step or an order gives: the answer, the head and the table.
-#[derive(Clone, Copy)]
-pub struct Outcome {
-    pub answer: Answer,
+// What a call gives: the answer, the head and the table.
+#[derive(Clone, Copy, Debug, PartialEq, Eq)]
+pub struct Outcome<A> {
+    pub answer: A,
     pub head: Head,
     pub table: [Block; 64],
 }
 
-// What opening gives.
-#[derive(Clone, Copy)]
-pub struct OpeningOutcome {
-    pub answer: Opening,
-    pub head: Head,
-    pub table: [Block; 64],
+impl Outcome<Answer> {
+    // A refusal, with head and table as they were.
+    pub fn refused(w: Refusal, head: Head, table: [Block; 64]) -> Outcome<Answer>
+        ensures { result ≡ record { answer = Answer.Refused w 0; head = head; table = table } }
+    {
+        Outcome {
+            answer: Answer::Refused(w, 0),
+            head,
+            table,
+        }
+    }
 }
 
 // An idle desk, written as zeros.
@@ -55,19 +61,18 @@ pub fn unused() -> Block
 }
 
 // The head of a line that is opened: zeros but for its numbers, all sixteen desks idle.
-pub fn fresh(nb: u16, ne: u16, t: u16) -> Head
-    ensures { result ≡ (opened (sized nb ne t)).head }
+#[tactic(auto, unfolding(line::specs::Line::opened))]
+pub fn fresh(z: Size) -> Head
+    ensures { result ≡ (opened z).head }
 {
-    let desk = idle();
-    let desks = [desk; 16];
     Head {
-        nb,
-        ne,
-        t,
+        nb: z.nb,
+        ne: z.ne,
+        t: z.t,
         reading: 0,
         p: 0,
         k: 0,
-        desks,
+        desks: [idle(); 16],
     }
 }
 
@@ -75,12 +80,11 @@ pub fn fresh(nb: u16, ne: u16, t: u16) -> Head
 pub fn no_head() -> Head
     ensures { result ≡ (opened (sized 0 0 0)).head }
 {
-    fresh(0, 0, 0)
+    fresh(Size { nb: 0, ne: 0, t: 0 })
 }
 
 pub fn no_table() -> [Block; 64]
     ensures { result ≡ replicate 64 unused_block }
 {
-    let block = unused();
-    [block; 64]
+    [unused(); 64]
 }

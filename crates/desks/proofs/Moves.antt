@@ -19,8 +19,7 @@ use Rattle.book.specs.Sizes.{Size, sized, block_of, current_turn, is_owned}
 use Rattle.book.specs.declared.DeskStep.{DeskStep}
 use Rattle.book.specs.declared.DeskStep.TheVariants.{Look as look, Claim as claim, Fetch as fetch, Finish as finish}
 use Rattle.book.specs.Steps.{Hold, Desk, idle, holding, claimed_at, hold_of}
-use Rattle.book.specs.declared.Verdict.TheVariants.{Takes as takes, Refuses as refuses}
-use Rattle.book.specs.Verdicts.{column, at_stage, no_block, admitted, lookable}
+use Rattle.book.specs.Verdicts.{takes, refuses, column, at_stage, no_block, admitted, lookable}
 use Rattle.book.proofs.Choice.{cases, T→true}
 use Rattle.book.proofs.Turns.{current_block}
 use Rattle.line.specs.declared.Block.{Block}

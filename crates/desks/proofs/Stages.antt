@@ -3,8 +3,7 @@ use mathlib.Core.Path.{◌≡◌, refl, sym, ◌∙◌}
 use Prim.Native.Nat.{ℕ, zero, suc, ◌<◌}
 use Rattle.words.specs.declared.Refusal.TheVariants.{Stage}
 use Rattle.book.specs.Steps.{Desk, holding, claimed_at, hold_of}
-use Rattle.book.specs.declared.Verdict.TheVariants.{Takes as takes, Refuses as refuses}
-use Rattle.book.specs.Verdicts.{stage, at_stage}
+use Rattle.book.specs.Verdicts.{takes, refuses, stage, at_stage}
 use Rattle.line.specs.declared.Desk.{Desk as LentDesk}
 use Rattle.line.specs.Line.{Spot, nowhere, spot_of, desk_of}
 use Rattle.line.proofs.Verdicts.{refuses_not}

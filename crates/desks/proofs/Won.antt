@@ -1,13 +1,14 @@
 -- When a claim is won, by comparisons: a turn is its block's current one if it is among the last NB turns up to P,
 -- and the block of a current turn is owned if the turn is at most K.
 use mathlib.Core.Path.{◌≡◌, refl, sym, ◌∙◌}
-use mathlib.Core.Bool.{true, false, not, ◌&&◌}
-use Prim.Native.Nat.{ℕ, ◌≤◌, ◌<◌}
+use mathlib.Core.Bool.{Bool, true, false, not, ◌&&◌}
+use Prim.Native.Nat.{ℕ, ◌≤◌}
 use native.Mathlib.Nat.{mod-le}
 use native.Mathlib.Omega.{arith}
-use lib.Dec.{leb, eqb}
-use borrow.Author.Tests.{le-leb, lt-leb, eqb-true}
+use lib.Dec.{leb, ltb, eqb, leb→le, nleb→lt}
+use borrow.Author.Tests.{le-leb, le-ltb, lt-ltb, eqb-true}
 use Rattle.book.specs.Sizes.{Size, sized, block_of, current_turn, is_owned}
+use Rattle.book.proofs.Choice.{cases, T→true, not→false}
 use Rattle.line.specs.declared.Block.{Block}
 use Rattle.line.specs.Line.{Spot, wins}
 use Rattle.line.specs.Tests.{is_recent}
@@ -37,8 +38,11 @@ module _ (nb p k : ℕ) (c : Block) (s : Spot) (pos : 1 ≤ nb) where
         let h = recent→le nb p u true (sym e) refl in
         rw (current, eqb-true (current_turn z p i) u current, le-leb i p (omega (arith, mod-le u nb))) refl
 
-    pub is_owned_lem : u ≤ k → false ≡ wins z p k c s
-    is_owned_lem h = rw (won_by, le-leb u k h)
+  above : not (leb u k) ≡ ltb k u
+  above =
+      cases (leb u k) (λ t. rw (T→true (leb u k) t, le-ltb k u (leb→le u k t)) refl)
+      (λ t. rw (not→false (leb u k) t, lt-ltb k u (nleb→lt u k t)) refl)
 
-    pub by_place : k < u → eqb c.claimed s.place ≡ wins z p k c s
-    by_place h = rw (won_by, lt-leb u k h)
+  pub won : (b : Bool) → b ≡ is_recent nb p u → ((b && ltb k u) && eqb c.claimed s.place) ≡ wins z p k c s
+  won false e = not_current (sym e)
+  won true e = rw (won_by (sym e), above) refl

@@ -1,6 +1,5 @@
 pub mod Codes
 pub mod Called
-pub mod Filling
 pub mod Openings
 pub mod Looks
 pub mod Mask

@@ -4,13 +4,13 @@ use mathlib.Core.Path.{◌≡◌, refl, ap, ◌∙◌}
 use mathlib.Core.Bool.{Bool, true, false, not}
 use Prim.Native.Nat.{ℕ, ◌<◌}
 use lib.ListN.{get_or}
+use mir.Val.{bool_byte}
+use Rattle.std.specs.Prelude.{Ok, Err, is_ok}
 use Rattle.book.specs.Choice.{◌≡ᵇ◌}
 use Rattle.book.specs.Sizes.{sized, is_owned, current_turn}
 use Rattle.book.specs.declared.DeskStep.TheVariants.{Look as look}
 use Rattle.book.specs.Steps.{idle, hold_of}
-use Rattle.book.specs.declared.Verdict.{Verdict}
-use Rattle.book.specs.declared.Verdict.TheVariants.{Takes as takes, Refuses as refuses}
-use Rattle.book.specs.Verdicts.{judge, admitted, lookable}
+use Rattle.book.specs.Verdicts.{Verdict, takes, judge, admitted, lookable}
 use Rattle.book.proofs.Choice.{gt→false}
 use Rattle.book.proofs.Turns.{current_block}
 use Rattle.line.specs.declared.Block.{Block}
@@ -23,13 +23,13 @@ use Rattle.line.proofs.Verdicts.{lookable_same}
 abbrev pub seen : Verdict → Bool
 seen v = judge v true (λ w. false)
 
-pub seen_bit : (v : Verdict) → judge v 1 (λ w. 0) ≡ bit (seen v)
-seen_bit takes = refl
-seen_bit (refuses w) = refl
+pub seen_bit : (v : Verdict) → bool_byte (is_ok v) ≡ bit (seen v)
+seen_bit (Ok u) = refl
+seen_bit (Err w) = refl
 
 seen_judge : (v : Verdict) (l : Line) (o : Outcome) → is_seen o.answer ≡ true → is_seen (judge v o (refuse l)).answer ≡ seen v
-seen_judge takes l o e = e
-seen_judge (refuses w) l o e = refl
+seen_judge (Ok u) l o e = e
+seen_judge (Err w) l o e = refl
 
 -- does a label wait there, and the verdict on a look at block i with that record
 abbrev waits : Block → Bool

@@ -1,17 +1,16 @@
 -- A mask of bits, the first of them lowest: its ones are their number, and its trailing zeros the lowest of them.
--- It is built from the top block down.
 use Rattle.std.specs.Prelude.{if◌then◌else◌}
-use mathlib.Core.Path.{◌≡◌, refl, ap, ap₂, ◌∙◌}
+use mathlib.Core.Path.{◌≡◌, refl, sym, ap, ap₂, ◌∙◌}
 use mathlib.Core.Bool.{Bool, true, false}
 use mathlib.Core.List.{List, [], ◌∷◌}
-use Prim.Native.Nat.{ℕ, zero, suc, ◌+◌, ◌-◌, ◌*◌, ◌/◌, ◌%◌, ◌^◌, ◌≤◌, ◌<◌}
-use native.Mathlib.Nat.{pow-suc, zero-add, sub_self, lt_of_lt_of_le}
+use Prim.Native.Nat.{ℕ, zero, suc, ◌+◌, ◌*◌, ◌/◌, ◌%◌, ◌^◌, ◌≤◌, ◌<◌}
+use native.Mathlib.Nat.{pow-suc, zero-add}
+use Rattle.std.proofs.Common.{bit_or, add-zero, add-suc, add-one, suc-add}
+use Rattle.std.proofs.lemmas.Nat.{shl_whole, or_comm, or_shifted}
 use native.Mathlib.Omega.{arith}
 use lib.Count.{ones, ones_step, count_trailing_zeros, under, trailing_of_zero}
 use lib.ListN.{length}
-use lib.Pow.{pow_mono}
 use Rattle.book.specs.Total.{total}
-use Rattle.line.specs.declared.Surveyed.TheVariants.{Survey}
 use Rattle.line.specs.declared.Findings.{Findings}
 use Rattle.line.specs.Survey.{bit, mask_of, lowest_from, views}
 use Rattle.line.proofs.Survey.{bit_le}
@@ -49,12 +48,12 @@ mask_lowest (x ∷ bs) (suc k) i h e =
 
 -- what a survey says of its mask
 abbrev pub told : ℕ → Findings
-told m = record { answer = Survey; mask = m; count = ones m; lowest = count_trailing_zeros 64 m }
+told m = record { mask = m; count = ones m; lowest = count_trailing_zeros 64 m }
 
 pub told_views : (bs : List Bool) → length bs ≤ 64 → told (mask_of bs) ≡ views bs
 unfolding views
 told_views bs h =
-    ap₂ (λ (c i : ℕ). record { answer = Survey; mask = mask_of bs; count = c; lowest = i }) (mask_ones bs) (rw zero-add at (mask_lowest bs 64 0 h refl))
+    ap₂ (λ (c i : ℕ). record { mask = mask_of bs; count = c; lowest = i }) (mask_ones bs) (rw zero-add at (mask_lowest bs 64 0 h refl))
 
 -- ---- the bits of n blocks from block i on
 
@@ -67,27 +66,35 @@ unfolding bits_from
 bits_length f i zero = refl
 bits_length f i (suc n) = ap suc (bits_length f (suc i) n)
 
-module _ (f : ℕ → Bool) (nb : ℕ) where
-  -- the mask of the blocks from i on
-  abbrev pub mask_down : ℕ → ℕ
-  mask_down i = mask_of (bits_from f i (nb - i))
-
-  pub mask_none : 0 ≡ mask_down nb
+module _ (f : ℕ → Bool) where
+  -- one block more above
+  mask_more : (n i : ℕ) → mask_of (bits_from f i (suc n)) ≡ bit (f (i + n)) * 2 ^ n + mask_of (bits_from f i n)
   unfolding bits_from mask_of
-  mask_none = rw sub_self refl
+  mask_more zero i = rw (add-zero i) (omega arith)
+  mask_more (suc n) i =
+      let e : mask_of (bits_from f (suc i) (suc n)) ≡ bit (f (suc i + n)) * 2 ^ n + mask_of (bits_from f (suc i) n) = mask_more n (suc i) in
+      rw (pow-suc, add-suc, ← suc-add) (omega (arith, e))
 
-  mask_step : (n i : ℕ) → 2 * mask_of (bits_from f (suc i) n) + bit (f i) ≡ mask_of (bits_from f i (suc n))
+  -- the mask of the blocks below i
+  abbrev pub mask_below : ℕ → ℕ
+  mask_below i = mask_of (bits_from f 0 i)
+
+  pub mask_none : 0 ≡ mask_below 0
   unfolding bits_from mask_of
-  mask_step n i = omega arith
+  mask_none = refl
 
-  -- one block more below: the mask is doubled and the block's bit put in
-  pub mask_more : (i m b : ℕ) → 0 < i → i ≤ nb → m ≡ mask_down i → b ≡ bit (f (i - 1)) → 2 * m + b ≡ mask_down (i - 1)
-  mask_more i m b h k e g =
-      let up : suc (i - 1) ≡ i = omega arith in
-      let more : nb - (i - 1) ≡ suc (nb - i) = omega arith in
-      rw (e, g, more) (rw up at (mask_step (nb - i) (i - 1)))
+  mask_below_lt : (i : ℕ) → mask_below i < 2 ^ i
+  mask_below_lt i = rw (bits_length f 0 i) at (mask_lt (bits_from f 0 i))
 
-  -- and there is room for it
-  pub mask_room : (i m : ℕ) → 0 < i → nb ≤ 64 → m ≡ mask_down i → m < 2 ^ 63
-  mask_room i m h k e =
-      rw e (lt_of_lt_of_le (mask_lt (bits_from f i (nb - i))) (rw (bits_length f i (nb - i)) (pow_mono {i = nb - i} {j = 63} (omega arith))))
+  -- block i's bit is put in above them
+  pub mask_set : (i m b : ℕ) → i < 64 → m ≡ mask_below i → b ≡ bit (f i) → bit_or m ((b * 2 ^ i) % 2 ^ 64) ≡ mask_below (i + 1)
+  mask_set i m b h e g =
+      rw (
+        e,
+        g,
+        shl_whole (bit (f i)) 1 i 64 (omega (arith, bit_le (f i))) (omega arith),
+        or_comm (mask_below i) (bit (f i) * 2 ^ i),
+        or_shifted (bit (f i)) i (mask_below i) (mask_below_lt i),
+        add-one,
+      )
+      (rw zero-add at (sym (mask_more i 0)))

@@ -2,25 +2,22 @@
 use mathlib.Core.Path.{◌≡◌, refl, sym, ap, ap₂, subst, ◌∙◌}
 use mathlib.Core.Bool.{Bool}
 use mathlib.Core.List.{List, ◌∷◌}
-use Prim.Native.Nat.{ℕ, zero, suc, ◌+◌, ◌<◌}
-use native.Mathlib.Nat.{sub-zero}
+use Prim.Native.Nat.{ℕ, zero, suc, ◌+◌, ◌≤◌, ◌<◌}
+use Rattle.std.proofs.lemmas.List.{length-take-le}
 use native.Mathlib.Omega.{arith}
-use lib.ListN.{length, get_or, replicate}
+use lib.ListN.{length, get_or, take, replicate}
 use Rattle.book.specs.declared.DeskStep.TheVariants.{Look as look}
 use Rattle.book.specs.Steps.{idle}
-use Rattle.book.proofs.Choice.{T→true}
+use Rattle.book.proofs.Choice.{T→true, le→true}
 use Rattle.line.specs.declared.Block.{Block}
-use Rattle.line.specs.declared.Checked.{Checked}
-use Rattle.line.specs.declared.Checked.TheVariants.{Sound}
 use Rattle.line.specs.declared.Head.{Head}
 use Rattle.line.specs.Line.{Line, size_of, unused, desk_step}
-use Rattle.line.specs.Check.{fit, check}
-use Rattle.line.specs.Survey.{is_seen, seen_from, views, surveys, survey}
+use Rattle.line.specs.Check.{Checked, sound, fit, check}
+use Rattle.line.specs.Survey.{surveyed, is_seen, seen_from, views, surveys, survey}
 use Rattle.line.proofs.Check.{Says, checked}
 use Rattle.byvalue.specs.Lent.{lent_table, line_of}
-use Rattle.byvalue.proofs.Lent.{lent_at}
 use Rattle.rules.proofs.Lengths.{Sized, sized, fit_by}
-use Rattle.engine.proofs.Mask.{told, told_views, bits_from, bits_length, mask_down}
+use Rattle.engine.proofs.Mask.{told, told_views, bits_from, bits_length, mask_below}
 use Rattle.engine.proofs.Looks.{seen, sees, verdict_at, seen_is}
 
 pub survey_by : (l : Line) (c : Checked) → c ≡ check l → surveys l c ≡ survey l
@@ -36,26 +33,45 @@ seen_bits l f (suc n) i h = ap₂ (λ (b : Bool) (bs : List Bool). b ∷ bs) (h 
 abbrev pub bit_at : ℕ → ℕ → ℕ → List Block → ℕ → Bool
 bit_at nb p k t i = seen (verdict_at nb p k i (get_or t i unused))
 
-module _ (h : Head) (t : List Block) (n m : ℕ) (long : length t ≡ 64) (sound : Sound ≡ check (line_of h t n (replicate m 0))) where
+module _ (h : Head) (t : List Block) (n m : ℕ) (long : length t ≡ 64) (is_sound : sound ≡ check (line_of h t n (replicate m 0))) where
   abbrev l : Line
   l = line_of h t n (replicate m 0)
 
   abbrev at : ℕ → Bool
-  at = bit_at h.nb h.p h.k t
+  at = bit_at h.nb h.p h.k (take n t)
 
   pub sound_sized : Sized (size_of h) n (length l.entries)
   sound_sized =
       let b = fit (size_of h) (lent_table t n) l.entries in
-      sized (size_of h) n (length l.entries) b (fit_by (size_of h) t n l.entries long) (T→true b (subst (Says l) (sym sound) (checked l)).0)
+      sized (size_of h) n (length l.entries) b (fit_by (size_of h) t n l.entries long) (T→true b (subst (Says l) (sym is_sound) (checked l)).0)
+
+  -- the lent records are all there
+  pub lent_few : n ≤ length t
+  lent_few = let s = sound_sized in let v = s.limits in omega (arith, s.blocks)
+
+  pub lent_all : n ≡ length (take n t)
+  lent_all = sym (length-take-le n t lent_few)
+
+  pub some_blocks : (1 ≤ h.nb) × (h.nb ≤ 64)
+  some_blocks = let v = sound_sized.limits in (omega arith, v.nb_most)
+
+  pub lent_in : (i : ℕ) → i < length (take n t) → i < h.nb
+  lent_in i k = let s = sound_sized in omega (arith, lent_all, s.blocks)
+
+  lent_is : lent_table t n ≡ take n t
+  unfolding lent_table
+  lent_is = rw (le→true n 64 (omega (arith, lent_few))) refl
 
   seen_at : (i : ℕ) (k : i < h.nb) → sees l i k ≡ at i
   seen_at i k =
-      let s = sound_sized in let v = s.limits in
-      seen_is l i k (omega arith) ∙ ap (λ (c : Block). seen (verdict_at h.nb h.p h.k i c)) (lent_at n (omega (arith, s.blocks)) t i unused (omega (arith, s.blocks)))
-
-  pub survey_sound : told (mask_down at h.nb 0) ≡ survey l
-  unfolding surveys
-  survey_sound =
       let v = sound_sized.limits in
-      let same : seen_from l 0 h.nb ≡ bits_from at 0 h.nb = seen_bits l at h.nb 0 (λ i k. seen_at i (omega arith)) in
-      rw sub-zero (told_views (bits_from at 0 h.nb) (omega (arith, bits_length at 0 h.nb)) ∙ ap views (sym same) ∙ survey_by l Sound sound)
+      seen_is l i k (omega arith) ∙ ap (λ (u : List Block). seen (verdict_at h.nb h.p h.k i (get_or u i unused))) lent_is
+
+  -- the mask of all of them
+  pub survey_sound : (i : ℕ) → i ≡ length (take n t) → surveyed (told (mask_below at i)) ≡ survey l
+  unfolding surveys
+  survey_sound i e =
+      let s = sound_sized in let v = s.limits in
+      let all : i ≡ h.nb = e ∙ sym lent_all ∙ s.blocks in
+      let same : seen_from l 0 i ≡ bits_from at 0 i = seen_bits l at i 0 (λ j k. seen_at j (omega arith)) in
+      ap surveyed (told_views (bits_from at 0 i) (omega (arith, bits_length at 0 i)) ∙ ap views (sym same ∙ ap (seen_from l 0) all)) ∙ survey_by l sound is_sound

@@ -1,19 +1,11 @@
 // Opening a line in the records and entries that are lent.
-ghost use Rattle.std.specs.Prelude.{◌≡◌, length, replicate};
-ghost use Rattle.book.specs.Sizes.{sized};
 ghost use Rattle.engine.specs.Promises.{GivesOpening};
 
-use byvalue::{OpeningOutcome, fresh, unused};
-use line::{Block, Head, Opening};
+use book::Size;
+use byvalue::{Outcome, fresh, unused};
+use line::{Block, Head};
 use rules::fits;
-
-fn clear(entries: &mut [u32])
-    ensures { entries.new ≡ replicate (length entries.old) 0 }
-{
-    for i in 0..entries.len() {
-        entries[i] = 0;
-    }
-}
+use words::Refusal;
 
 // Where numbers and lengths fit, the lent records are unused and the entries 0; else everything is as it was.
 pub fn open(
@@ -21,29 +13,24 @@ pub fn open(
     table: [Block; 64],
     n: usize,
     entries: &mut [u32],
-    nb: u16,
-    ne: u16,
-    t: u16,
-) -> OpeningOutcome
-    ensures { GivesOpening h table n entries.old (sized nb ne t) result entries.new }
+    z: Size,
+) -> Outcome<Result<(), Refusal>>
+    ensures { GivesOpening h table n entries.old z result entries.new }
 {
-    let head = fresh(nb, ne, t);
-    if fits(nb, ne, t, n, entries.len()) {
-        clear(entries);
-        let block = unused();
-        let mut records = table;
-        for i in 0..n {
-            records[i] = block;
-        }
-        return OpeningOutcome {
-            answer: Opening::Open,
-            head,
-            table: records,
+    let head = fresh(z);
+    if !fits(z, n, entries.len()) {
+        return Outcome {
+            answer: Err(Refusal::Unfit),
+            head: h,
+            table,
         };
     }
-    OpeningOutcome {
-        answer: Opening::Unfit,
-        head: h,
-        table,
+    entries.fill(0);
+    let mut records = table;
+    records[..n].fill(unused());
+    Outcome {
+        answer: Ok(()),
+        head,
+        table: records,
     }
 }

@@ -2,13 +2,12 @@
 ghost use Rattle.std.specs.Prelude.{◌≡◌};
 ghost use Rattle.book.specs.Messages.{raw};
 ghost use Rattle.book.specs.Steps.{decode};
-ghost use Rattle.line.specs.Calls.{passes};
-ghost use Rattle.engine.specs.Promises.{GivesStep, GivesOrder};
+ghost use Rattle.engine.specs.Promises.{GivesDeed, GivesStep, GivesOrder};
 
-use book::{Deed, DeskStep, Verdict};
+use book::{Deed, DeskStep};
 use byvalue::Outcome;
 use desks::desk_step;
-use line::{Block, Checked, Head};
+use line::{Block, Head};
 use rules::check;
 use words::{Answer, Refusal};
 
@@ -27,32 +26,45 @@ fn deed_of(code: u8, a: u32, b: u32) -> Deed
     }
 }
 
-// A sound line passes.
-fn may_pass(c: Checked) -> Verdict
-    ensures { result ≡ passes c }
+// A deed on a sound line. On any other it is UNFIT or DAMAGED, whatever the deed.
+fn perform(
+    h: Head,
+    table: [Block; 64],
+    n: usize,
+    entries: &mut [u32],
+    deed: Deed,
+) -> Outcome<Answer>
+    ensures { GivesDeed h table n entries.old deed result entries.new }
 {
-    match c {
-        Checked::Sound => Verdict::Takes,
-        Checked::Unfit => Verdict::Refuses(Refusal::Unfit),
-        Checked::Broken(_, _) => Verdict::Refuses(Refusal::Damaged),
+    if let Err(fault) = check(h, table, n, entries.len()) {
+        return Outcome::refused(Refusal::from(fault), h, table);
+    }
+    match deed {
+        Deed::Put(label) => owner::put(h, table, entries, label),
+        Deed::Get => owner::get(h, table, entries),
+        Deed::Order(first, last) => owner::order(h, table, entries, first, last),
+        Deed::Desk(d, s) => desk_step(h, table, entries, d, s),
+        Deed::Unlisted => Outcome::refused(Refusal::Badstep, h, table),
     }
 }
 
 // An order of the labels a to b, as a call of its own.
-pub fn order(h: Head, table: [Block; 64], n: usize, entries: &mut [u32], a: u32, b: u32) -> Outcome
+#[tactic(auto, unfolding(line::specs::Calls::orders, line::specs::Line::does))]
+pub fn order(
+    h: Head,
+    table: [Block; 64],
+    n: usize,
+    entries: &mut [u32],
+    a: u32,
+    b: u32,
+) -> Outcome<Answer>
     ensures { GivesOrder h table n entries.old a b result entries.new }
 {
-    match may_pass(check(h, table, n, entries.len())) {
-        Verdict::Takes => owner::order(h, table, entries, a, b),
-        Verdict::Refuses(w) => Outcome {
-            answer: Answer::Refused(w, 0),
-            head: h,
-            table,
-        },
-    }
+    perform(h, table, n, entries, Deed::Order(a, b))
 }
 
-// A step: a code and two numbers. UNFIT and DAMAGED come before the code is looked at.
+// A step: a code and two numbers.
+#[tactic(auto, unfolding(line::specs::Calls::step))]
 pub fn step(
     h: Head,
     table: [Block; 64],
@@ -61,25 +73,8 @@ pub fn step(
     code: u8,
     a: u32,
     b: u32,
-) -> Outcome
+) -> Outcome<Answer>
     ensures { GivesStep h table n entries.old (raw code a b) result entries.new }
 {
-    match may_pass(check(h, table, n, entries.len())) {
-        Verdict::Takes => match deed_of(code, a, b) {
-            Deed::Put(label) => owner::put(h, table, entries, label),
-            Deed::Get => owner::get(h, table, entries),
-            Deed::Order(first, last) => owner::order(h, table, entries, first, last),
-            Deed::Desk(d, s) => desk_step(h, table, entries, d, s),
-            Deed::Unlisted => Outcome {
-                answer: Answer::Refused(Refusal::Badstep, 0),
-                head: h,
-                table,
-            },
-        },
-        Verdict::Refuses(w) => Outcome {
-            answer: Answer::Refused(w, 0),
-            head: h,
-            table,
-        },
-    }
+    perform(h, table, n, entries, deed_of(code, a, b))
 }

@@ -1,15 +1,11 @@
 -- What crosses is the paper's: the number of each answer and its value; and 0, 1 or 2 of opening, check and survey.
-use mathlib.Core.Path.{◌≡◌, refl}
-use mathlib.Core.List.{[], ◌∷◌, ◌++◌, map}
-use Prim.Native.Nat.{ℕ}
-use lib.ListN.{replicate}
+use Rattle.std.proofs.Common.{◌≡◌, ℕ, [], ◌∷◌, ◌++◌, map, replicate, refl}
 use Rattle.words.specs.Spelling.{answers}
 use Rattle.words.proofs.Laws.{fifteen, carried}
-use Rattle.line.specs.declared.Opening.TheVariants.{Open, Unfit as NoLine}
-use Rattle.line.specs.declared.Checked.TheVariants.{Sound, Unfit as Misfit, Broken}
-use Rattle.line.specs.declared.Surveyed.{Surveyed}
-use Rattle.line.specs.declared.Surveyed.TheVariants.{Survey, Unfit as NoSurvey, Damaged as Unsound}
-use Rattle.lbq.specs.Replies.{SurveyReply, of_answer, of_opening, of_check, of_survey}
+use Rattle.line.specs.Check.{sound, unfit, broken}
+use Rattle.line.specs.Calls.{open·line, open·unfit}
+use Rattle.line.specs.Survey.{surveyed, survey·unfit, survey·damaged}
+use Rattle.lbq.specs.Replies.{of_answer, of_opening, of_check, of_survey}
 
 -- of all answers that carry v: 0 for the seven that are no refusal, and 1 to 15 for the refusals; each value but that
 -- of DONE
@@ -19,16 +15,13 @@ numbers v = fifteen v
 pub values : (v : ℕ) → map (λ a. (of_answer a).value) (answers v) ≡ replicate 6 v ++ (0 ∷ replicate 15 v)
 values v = carried v
 
-pub openings : map of_opening (Open ∷ NoLine ∷ []) ≡ record { number = 0; value = 0 } ∷ record { number = 1; value = 0 } ∷ []
+pub openings : map of_opening (open·line ∷ open·unfit ∷ []) ≡ record { number = 0; value = 0 } ∷ record { number = 1; value = 0 } ∷ []
 openings = refl
 
-pub checks : (place rule : ℕ) → map of_check (Sound ∷ Misfit ∷ Broken place rule ∷ [])
+pub checks : (place rule : ℕ) → map of_check (sound ∷ unfit ∷ broken place rule ∷ [])
     ≡ record { number = 0; place = 0; rule = 0 } ∷ record { number = 1; place = 0; rule = 0 } ∷ record { number = 2; place = place; rule = rule } ∷ []
 checks place rule = refl
 
-abbrev surveyed : ℕ → ℕ → ℕ → Surveyed → SurveyReply
-surveyed mask count lowest s = of_survey (record { answer = s; mask = mask; count = count; lowest = lowest })
-
-pub surveys : (mask count lowest : ℕ) → map (surveyed mask count lowest) (Survey ∷ NoSurvey ∷ Unsound ∷ [])
-    ≡ map (λ n. record { mask = mask; number = n; count = count; lowest = lowest }) (0 ∷ 1 ∷ 2 ∷ [])
+pub surveys : (mask count lowest : ℕ) → map of_survey (surveyed (record { mask = mask; count = count; lowest = lowest }) ∷ survey·unfit ∷ survey·damaged ∷ [])
+    ≡ record { mask = mask; number = 0; count = count; lowest = lowest } ∷ map (λ n. record { mask = 0; number = n; count = 0; lowest = 64 }) (1 ∷ 2 ∷ [])
 surveys mask count lowest = refl

@@ -1,6 +1,5 @@
 pub mod Crossing
 pub mod Narrowed
-mod Parts
 mod Replied
 pub mod Unique
 pub mod OneVersion

@@ -1,13 +1,11 @@
 -- A number that is held to the highest one means what the number means: a code above 79 is not listed, and a size above
 -- 64 does not fit.
-use mathlib.Core.Path.{◌≡◌, refl, sym, ap, ◌∙◌}
-use Prim.Native.Nat.{ℕ, ◌≤◌, ◌<◌}
-use native.Mathlib.Omega.{arith}
-use lib.Dec.{T, leb, leb→le, nleb→lt}
-use borrow.Author.Tests.{le-leb, lt-leb}
+use Rattle.std.proofs.Common.{◌≡◌, ℕ, ◌≤◌, ◌<◌, min, T, leb, refl, sym, ap, ◌∙◌, arith, leb→le, le-leb, inl, inr}
+use Rattle.std.proofs.Math.Dec.{nleb→lt}
+use Rattle.std.proofs.lemmas.Bool.{lt-leb, cases_lt}
 use Rattle.book.specs.Sizes.{Size, fits}
 use Rattle.book.specs.Steps.{Step, decode}
-use Rattle.book.proofs.Choice.{by_test, cases, not→false}
+use Rattle.book.proofs.Choice.{cases, not→false}
 use Rattle.line.specs.Line.{Line}
 use Rattle.line.specs.Check.{fit}
 use Rattle.line.specs.Calls.{step, opens}
@@ -15,17 +13,18 @@ use Rattle.line.proofs.Cells.{valid}
 use Rattle.engine.proofs.Codes.{high_at}
 use Rattle.lbq.specs.Narrow.{at_most, highest_code, highest_size, narrow_code, narrow_size}
 
-pub kept : (high n : ℕ) → n ≤ high → n ≡ at_most high n
+kept : (high n : ℕ) → n ≤ high → n ≡ at_most high n
 unfolding at_most
 kept high n h = rw (le-leb n high h) refl
 
-pub cut : (high n : ℕ) → high < n → high ≡ at_most high n
+cut : (high n : ℕ) → high < n → high ≡ at_most high n
 unfolding at_most
 cut high n h = rw (lt-leb n high h) refl
 
-pub most : (high n r : ℕ) → r ≡ at_most high n → r ≤ high
+-- the code takes the smaller of the two
+pub min_is : (high n : ℕ) → min n high ≡ at_most high n
 unfolding at_most
-most high n r e = rw e (by_test (λ (m : ℕ). m ≤ high) (leb n high) (λ t. leb→le n high t) (λ _. omega arith))
+min_is high n = elim (cases_lt high n) [ inl h ↦ rw (lt-leb n high h) (omega (arith, h)) | inr h ↦ rw (le-leb n high h) (omega (arith, h)) ]
 
 -- ---- a code, held to a number that is none
 

@@ -1,6 +1,5 @@
 -- Any two numbers that the promise of lbq_version allows are equal.
-use mathlib.Core.Path.{◌≡◌, sym, ◌∙◌}
-use Prim.Native.Nat.{ℕ}
+use Rattle.std.proofs.Common.{◌≡◌, ℕ, sym, ◌∙◌}
 use Rattle.lbq.specs.Version.{version}
 
 pub version_unique : (r s : ℕ) → r ≡ version → s ≡ version → r ≡ s

@@ -1,11 +1,10 @@
 -- From the portal's call to the exported one: what the portal tells at the narrowed numbers, and the reply that is made
 -- of it, are what is promised at the numbers as they were given.
-use mathlib.Core.Path.{ap, ◌∙◌}
-use Prim.Native.Nat.{ℕ}
+use Rattle.std.proofs.Common.{ℕ, ap, ◌∙◌}
 use Rattle.words.specs.declared.Answer.{Answer}
 use Rattle.book.specs.Sizes.{Size}
 use Rattle.line.specs.Line.{Line}
-use Rattle.line.specs.declared.Opening.{Opening}
+use Rattle.line.specs.Calls.{Opening}
 use Rattle.portal.specs.Promises.{told, told_opening, the_step, Opens, Steps, Orders}
 use Rattle.lbq.specs.Narrow.{narrow_code}
 use Rattle.lbq.specs.Replies.{of_answer, of_opening}

@@ -1,9 +1,9 @@
 -- What crosses of each answer: the number and the values that are said of it.
 use Rattle.words.specs.declared.Answer.{Answer}
 use Rattle.words.specs.Words.{Said, said}
-use Rattle.line.specs.declared.Opening.{Opening}
-use Rattle.line.specs.declared.Checked.{Checked}
-use Rattle.line.specs.declared.Findings.{Findings}
+use Rattle.line.specs.Check.{Checked}
+use Rattle.line.specs.Calls.{Opening}
+use Rattle.line.specs.Survey.{Surveyed}
 use Rattle.line.specs.Numbers.{OpeningSaid, opening_said, CheckSaid, check_said, SurveySaid, survey_said}
 pub use Rattle.lbq.specs.declared.replies.Reply.{Reply}
 pub use Rattle.lbq.specs.declared.replies.CheckReply.{CheckReply}
@@ -30,5 +30,5 @@ of_opening o = opening_reply (opening_said o)
 abbrev pub of_check : Checked → CheckReply
 of_check c = check_reply (check_said c)
 
-abbrev pub of_survey : Findings → SurveyReply
+abbrev pub of_survey : Surveyed → SurveyReply
 of_survey v = survey_reply (survey_said v)

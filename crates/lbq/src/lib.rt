@@ -46,11 +46,15 @@ pub extern "C" fn lbq_open(
 ) -> Reply
     ensures { RepliesOpening (lent head.old table.old entries.old) (the_size nb ne t) result (lent head.new table.new entries.new) }
 {
-    let b = narrow::size(nb);
-    let e = narrow::size(ne);
-    let d = narrow::size(t);
-    let opening = portal::open(head, table, entries, b, e, d);
-    replies::of_opening(opening)
+    let opening = portal::open(
+        head,
+        table,
+        entries,
+        narrow::size(nb),
+        narrow::size(ne),
+        narrow::size(t),
+    );
+    Reply::from(opening)
 }
 
 // One step: a code and two numbers.
@@ -65,9 +69,8 @@ pub extern "C" fn lbq_step(
 ) -> Reply
     ensures { RepliesStep (lent head.old table.old entries.old) (the_step code a b) result (lent head.new table.new entries.new) }
 {
-    let c = narrow::code(code);
-    let answer = portal::step(head, table, entries, c, a, b);
-    replies::of_answer(answer)
+    let answer = portal::step(head, table, entries, narrow::code(code), a, b);
+    Reply::from(answer)
 }
 
 // The labels first to last, both included.
@@ -82,7 +85,7 @@ pub extern "C" fn lbq_order(
     ensures { RepliesOrder (lent head.old table.old entries.old) first last result (lent head.new table.new entries.new) }
 {
     let answer = portal::order(head, table, entries, first, last);
-    replies::of_answer(answer)
+    Reply::from(answer)
 }
 
 // Is the line sound? Nothing is changed.
@@ -91,7 +94,7 @@ pub extern "C" fn lbq_check(head: &Head, table: &[Block], entries: &[u32]) -> Ch
     ensures { RepliesCheck (lent head.now table.now entries.now) result }
 {
     let checked = portal::check(head, table, entries);
-    replies::of_check(checked)
+    CheckReply::from(checked)
 }
 
 // Where could an idle desk take from? Nothing is changed.
@@ -99,6 +102,6 @@ pub extern "C" fn lbq_check(head: &Head, table: &[Block], entries: &[u32]) -> Ch
 pub extern "C" fn lbq_survey(head: &Head, table: &[Block], entries: &[u32]) -> SurveyReply
     ensures { RepliesSurvey (lent head.now table.now entries.now) result }
 {
-    let views = portal::survey(head, table, entries);
-    replies::of_survey(views)
+    let survey = portal::survey(head, table, entries);
+    SurveyReply::from(survey)
 }

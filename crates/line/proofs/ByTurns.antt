@@ -2,12 +2,7 @@
 -- the window (`Stands`), and by zeros in the unused blocks. A lawful line is told so (`told`), and a line that is told so is
 -- lawful (`lawful`): a proof about a step gives these parts of the new line from those of the old one.
 -- All is over the line's own size, which every step leaves.
-use mathlib.Core.Path.{◌≡◌, refl}
-use mathlib.Core.Bool.{◌&&◌}
-use Prim.Native.Nat.{ℕ, ◌*◌, ◌≤◌, ◌<◌}
-use native.Mathlib.Omega.{arith}
-use lib.Dec.{T, leb, eqb, le→leb}
-use lib.ListN.{length}
+use Rattle.std.proofs.Common.{◌≡◌, ℕ, ◌*◌, ◌<◌, ◌≤◌, ◌&&◌, T, eqb, leb, length, refl, arith, le→leb}
 use Rattle.book.specs.Sizes.{Size, fits, within}
 use Rattle.book.proofs.Choice.{and_in, eq→eqb}
 use Rattle.line.specs.Line.{Line, unused, size_of, size_in, here}

@@ -1,6 +1,6 @@
 -- The cases of specs/Damaged.antt and specs/Cases.antt, a list at a time, by computing: what the calls give is what stands
 -- beside them. A definition that is changed gives something else, and the list with such a case is refused.
-use mathlib.Core.Path.{refl}
+use Rattle.std.proofs.Common.{refl}
 use Rattle.book.specs.Total.{total, any, all}
 use Rattle.book.specs.Sizes.{fits, is_label, is_order, current_turn, is_owned}
 use Rattle.book.specs.Steps.{decode}

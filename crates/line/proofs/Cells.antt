@@ -1,13 +1,6 @@
 -- A sound line, turn by turn: what rules 4 to 7 say of the record of each turn of the window, in place of each block.
-use mathlib.Core.Path.{◌≡◌, refl, ap, ◌∙◌}
-use mathlib.Core.Logic.{◌≢◌}
-use mathlib.Core.List.{List}
-use Prim.Native.Nat.{ℕ, ◌+◌, ◌*◌, ◌≤◌, ◌<◌}
-use native.Mathlib.Nat.{mod-lt, mod-le, mod-eq_of_lt}
-use native.Mathlib.Omega.{arith}
-use lib.Dec.{T, leb, eqb, leb→le, eqb→eq}
-use lib.ListN.{length, get_or}
-use mathlib.Core.Bool.{◌&&◌}
+use Rattle.std.proofs.Common.{◌≡◌, ℕ, ◌+◌, ◌*◌, ◌<◌, ◌≤◌, ◌&&◌, T, eqb, leb, ◌≢◌, List, length, get_or, refl, ap, ◌∙◌, mod-lt, mod-eq_of_lt, arith, eqb→eq, leb→le}
+use Rattle.std.proofs.Math.Nat.{mod-le}
 use Rattle.book.specs.Total.{total}
 use Rattle.book.specs.Sizes.{Size, fits, within, block_of, round_of, current_turn}
 use Rattle.book.proofs.Choice.{and_first, and_second}

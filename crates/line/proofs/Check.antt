@@ -2,15 +2,8 @@
 -- check asks its questions in order, and a walk along them ends at the first that is broken, or all are obeyed and the
 -- line is sound. So what the check answers is one law, `checked`, and three statements about it are read off; `names` is its
 -- converse, that the first rule broken is the one named.
-use mathlib.Core.Path.{◌≡◌, refl, sym, ap, ap₂, subst, ◌∙◌}
-use mathlib.Core.Logic.{◌≢◌}
-use mathlib.Core.Bool.{not, ◌&&◌}
-use mathlib.Core.List.{List, [], ◌∷◌, ◌++◌, append-nil}
-use Prim.Native.Nat.{ℕ, zero, suc, ◌+◌, ◌-◌, ◌≤◌, ◌<◌}
-use native.Mathlib.Omega.{arith}
-use lib.Dec.{T, T_not, leb, eqb}
-use lib.ListN.{get_or, drop}
-use lib.Seq.{get_or-drop, append_snoc}
+use Rattle.std.proofs.Common.{◌≡◌, ℕ, zero, suc, ◌+◌, ◌-◌, ◌<◌, ◌≤◌, not, ◌&&◌, T, eqb, leb, ◌≢◌, List, [], ◌∷◌, ◌++◌, get_or, drop, Ok, Err, sym, refl, ap, ◌∙◌, subst, ap₂, append-nil, arith, T_not, get_or-drop}
+use Rattle.std.proofs.Math.Seq.{append_snoc}
 use Rattle.book.specs.Total.{any, all}
 use Rattle.book.specs.Steps.{Hold, Desk, idle, looked, holding, claimed_at, with_fetched}
 use Rattle.book.proofs.Choice.{by_test, choose_true, choose_false, by_order, and_first}
@@ -19,7 +12,7 @@ use Rattle.line.specs.Line.{Line, LentDesk, Block, Spot, numbers_of, spot_of, de
 use Rattle.line.specs.Rules.{Holds, Current, DeskRule, Rule1, Rule2, Rule3, Rule4, Rule5, Rule6, Rule7, Sound}
 use Rattle.line.specs.Rules.{Rule, rule1, rule2, rule3, rule4, rule5, rule6, rule7, rule_number, RuleAt, ask, of_blocks, in_order, Obeys}
 use Rattle.line.specs.Tests.{is_recent, desk_obeys, is_idle, holds_at, clashes, no_clash, obeys3}
-use Rattle.line.specs.Check.{Checked, sound, unfit, broken, fit, holds, first_broken, check}
+use Rattle.line.specs.Check.{Checked, sound, unfit, broken, Misfit, Broken, fit, holds, first_broken, check}
 use Rattle.line.specs.Demands.{CheckUnfit, CheckSound, CheckBroken, CheckNames, FirstBroken}
 use Rattle.line.proofs.Current.{current→window, window→current}
 use Rattle.line.proofs.Cells.{valid}
@@ -33,7 +26,7 @@ idle_is (looked s) t = absurd t
 idle_is (holding h) t = absurd t
 
 idle_told : (x : Desk Spot) → Tells (is_idle x) (x ≡ idle)
-idle_told x = record { to = idle_is x; from = λ e. subst (λ (y : Desk Spot). T (is_idle y)) (sym e) tt }
+idle_told x = record { to = idle_is x; from = λ e. rw e tt }
 
 spot_told : (x s : Spot) → Tells (eqb x.turn s.turn && eqb x.place s.place) (x ≡ s)
 spot_told x s =
@@ -252,9 +245,9 @@ module _ (l : Line) where
   Fit = T (fit (size_of l.head) l.table l.entries)
 
   abbrev pub Says : Checked → Type 0
-  Says sound = Fit × Sound l
-  Says unfit = Fit → ⊥
-  Says (broken place rule) = Fit × FirstBroken l place rule
+  Says (Ok u) = Fit × Sound l
+  Says (Err Misfit) = Fit → ⊥
+  Says (Err (Broken place rule)) = Fit × FirstBroken l place rule
 
   -- the questions x are obeyed, and y are still to be asked
   walk : Fit → (x y : List RuleAt) → in_order nb ≡ x ++ y → Every x → Says (first_broken l y)
@@ -297,14 +290,14 @@ module _ (l : Line) where
       ∙ names t x y q (λ u v a e. h (p ∷ u) v a (ap (λ (qs : List RuleAt). p ∷ qs) e)) n
 
   says_sound : (c : Checked) → Says c → Fit → Sound l → c ≡ sound
-  says_sound sound h t s = refl
-  says_sound unfit h t s = absurd (h t)
-  says_sound (broken place rule) h t s = absurd (broken_unsound place rule h.1 s)
+  says_sound (Ok tt) h t s = refl
+  says_sound (Err Misfit) h t s = absurd (h t)
+  says_sound (Err (Broken place rule)) h t s = absurd (broken_unsound place rule h.1 s)
 
   says_unfit : (c : Checked) → Says c → (Fit → ⊥) → c ≡ unfit
-  says_unfit sound h n = absurd (n h.0)
-  says_unfit unfit h n = refl
-  says_unfit (broken place rule) h n = absurd (n h.0)
+  says_unfit (Ok tt) h n = absurd (n h.0)
+  says_unfit (Err Misfit) h n = refl
+  says_unfit (Err (Broken place rule)) h n = absurd (n h.0)
 
 pub check_unfit : CheckUnfit
 unfolding CheckUnfit

@@ -1,14 +1,7 @@
 -- Nothing is ever stuck on the line: by demand 2 its answers are the book's, and its desks settle by the same steps. The line has
 -- NB × NE entries, and no more labels wait in the book.
-use Rattle.std.specs.Prelude.{if◌then◌else◌}
-use mathlib.Core.Path.{◌≡◌, refl, sym, ap, ap₂, ◌∙◌}
-use mathlib.Core.Logic.{⊎_map}
-use mathlib.Core.Bool.{Bool}
-use mathlib.Core.List.{List, [], ◌∷◌, ◌++◌, map}
-use Prim.Native.Nat.{ℕ, suc, ◌+◌, ◌*◌}
-use native.Mathlib.Omega.{arith}
-use lib.Dec.{T}
-use lib.ListN.{get_or, take, replicate}
+use Rattle.std.proofs.Common.{◌≡◌, ℕ, suc, ◌+◌, ◌*◌, Bool, T, List, [], ◌∷◌, ◌++◌, map, get_or, take, replicate, if◌then◌else◌, sym, refl, ap, ◌∙◌, ap₂, arith}
+use Rattle.std.proofs.Math.Logic.{⊎_map}
 use Rattle.words.specs.declared.Answer.{Answer}
 use Rattle.words.specs.declared.Answer.TheVariants.{Done}
 use Rattle.book.specs.Sizes.{Size, fits}

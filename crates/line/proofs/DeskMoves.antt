@@ -1,20 +1,14 @@
 -- What a desk's step leaves of the line. The step writes one desk and one record back (`with_moved`); where it changed neither, the
 -- line is as it was. So each of the four steps is told by what it changes.
-use Rattle.std.specs.Prelude.{if◌then◌else◌}
-use mathlib.Core.Path.{◌≡◌, refl}
-use mathlib.Core.Bool.{Bool, not}
-use Prim.Native.Nat.{ℕ}
-use lib.ListN.{get_or, set}
-use lib.Seq.{set-get_or}
+use Rattle.std.proofs.Common.{◌≡◌, ℕ, Bool, not, get_or, set, if◌then◌else◌, Ok, Err, refl}
+use Rattle.std.proofs.Math.Seq.{set-get_or}
 use Rattle.words.specs.declared.Answer.TheVariants.{Took, Seen, Claimed, Done, Refused}
 use Rattle.words.specs.declared.Refusal.TheVariants.{Lost}
 use Rattle.book.specs.Choice.{◌≡ᵇ◌}
 use Rattle.book.specs.Sizes.{Size, block_of, current_turn}
 use Rattle.book.specs.declared.DeskStep.TheVariants.{Look as look, Claim as claim, Fetch as fetch, Finish as finish}
-use Rattle.book.specs.declared.Verdict.{Verdict}
-use Rattle.book.specs.declared.Verdict.TheVariants.{Takes as takes, Refuses as refuses}
 use Rattle.book.specs.Steps.{Hold, Desk, idle, looked, holding, claimed_at, with_fetched}
-use Rattle.book.specs.Verdicts.{judge, lookable}
+use Rattle.book.specs.Verdicts.{Verdict, judge, lookable}
 use Rattle.book.proofs.Choice.{cases, T→true, not→false}
 use Rattle.line.specs.Line.{Line, Head, Block, Spot, Outcome, numbers_of, says, refuse, with_desk, with_head, unused, one_claimed, one_finished}
 use Rattle.line.specs.Line.{record_of, label_at, moved, look_of, wins, claim_of, moved_by, with_moved, desk_does}
@@ -58,8 +52,8 @@ module _ (z : Size) (l : Line) where
     look_judged : (t : ℕ) (v : Verdict) (x : Desk Spot)
         → with_moved z l d t (judge v (moved (Seen (here t).claimed) (numbers_of x) (here t)) (λ w. moved (Refused w 0) (get_or l.head.desks d (numbers_of idle)) (here t)))
         ≡ judge v (says (with_head l (with_desk l.head d x)) (Seen (here t).claimed)) (refuse l)
-    look_judged t takes x = rw (same_record t) refl
-    look_judged t (refuses w) x = rw (same_record t, same_desk d) refl
+    look_judged t (Ok tt) x = rw (same_record t) refl
+    look_judged t (Err w) x = rw (same_record t, same_desk d) refl
 
     pub does_look : (i : ℕ) → desk_does z l d h (look i) ≡ look_step d i
     unfolding desk_does moved_by look_of look_step

@@ -2,14 +2,10 @@
 -- So as many desks hold a row of a turn as hold a spot of it, and BUSY is the same on both sides, by rule 7. A desk that
 -- is written is written in both; with it records and rows may change, where written and the labels stand, and claimed
 -- does not fall.
-use Rattle.std.specs.Prelude.{if◌then◌else◌}
-use mathlib.Core.Path.{◌≡◌, refl, sym, ap, ◌∙◌, subst}
-use mathlib.Core.List.{List, [], ◌∷◌, map}
-use Prim.Native.Nat.{ℕ, zero, suc, ◌≤◌, ◌<◌}
-use native.Mathlib.Omega.{arith}
-use lib.Dec.{ltb, ltb→lt, lt→ltb, nltb→le}
-use lib.ListN.{length, get_or, set, take, length-take, get_or-map, get_or-eq_default}
-use lib.Seq.{get_or-take, take-set-lt}
+use Rattle.std.proofs.Common.{◌≡◌, ℕ, zero, suc, ◌<◌, ◌≤◌, ltb, List, [], ◌∷◌, map, length, get_or, take, set, if◌then◌else◌, sym, refl, ap, ◌∙◌, subst, arith, ltb→lt, lt→ltb, nltb→le, length-take, get_or-take}
+use Rattle.std.proofs.lemmas.List.{map-set}
+use Rattle.std.proofs.Math.ListN.{get_or-map, get_or-eq_default}
+use Rattle.std.proofs.Math.Seq.{take-set-lt}
 use Rattle.book.specs.Total.{total}
 use Rattle.book.specs.Steps.{Desk, idle, looked, Hold, holding, hold_of}
 use Rattle.book.specs.Book.{Row, Book, row_at, row_of}
@@ -37,11 +33,6 @@ looked_not x n s e = n (subst IsLooked (sym e) tt)
 -- ---- the first n of a list, mapped
 
 module _ {A B : Type 0} (f : A → B) where
-  map_set : (l : List A) (i : ℕ) (x : A) → map f (set l i x) ≡ set (map f l) i (f x)
-  map_set [] i x = refl
-  map_set (y ∷ ys) zero x = refl
-  map_set (y ∷ ys) (suc i) x = ap (λ (r : List B). f y ∷ r) (map_set ys i x)
-
   -- their total is that of the whole list, where the others count 0
   total_first : (c : B → ℕ) (h : A → ℕ) (n : ℕ) (l : List A) (d : A)
       → ((i : ℕ) → c (f (get_or l i d)) ≡ h (get_or l i d)) → ((i : ℕ) → n ≤ i → h (get_or l i d) ≡ 0) → total c (map f (take n l)) ≡ total h l
@@ -72,7 +63,7 @@ module _ (l : Line) (b : Book) (g : Agrees (size_of l.head) l b) where
 
   desks_set : (d : ℕ) (x : Desk Spot) → d < l.head.t → set b.desks d (as_row (size_in l) x) ≡ map as_desk (take l.head.t (set l.head.desks d (numbers_of x)))
   desks_set d x h =
-      rw (g.desks, take-set-lt l.head.t l.head.desks d (numbers_of x) h, map_set as_desk (take l.head.t l.head.desks) d (numbers_of x), desk_lent x)
+      rw (g.desks, take-set-lt l.head.t l.head.desks d (numbers_of x) h, map-set as_desk (take l.head.t l.head.desks) d (numbers_of x), desk_lent x)
 
   -- what rule 3 says of it: a spot that it holds is current, and its label is written
   pub rule : (d : ℕ) (x : Desk Spot) → desk_at l.head d ≡ x → DeskRule l x

@@ -1,15 +1,9 @@
 -- When a get on a sound line is EMPTY: exactly if no label waits, in turn K from the reading place on, and in the turns after K.
 -- A get reads at the spot that it has reached. Below turn P each record is full, so a spot where nothing is read is left for the next
 -- turn's, up to turn P; and NB - 1 moves are enough to get there, by rule 1. Both ways are one induction over the moves left.
-use mathlib.Core.Path.{◌≡◌, ap, ap₂, ◌∙◌}
-use mathlib.Core.Logic.{◌↔◌}
-use mathlib.Core.Bool.{Bool, not, ◌&&◌}
-use Prim.Native.Nat.{ℕ, zero, suc, ◌+◌, ◌-◌, ◌≤◌, ◌<◌}
-use native.Mathlib.Nat.{le_refl}
-use native.Mathlib.Omega.{arith}
-use lib.Dec.{T, T_not, ltb→lt, nltb→le}
+use Rattle.std.proofs.Common.{◌≡◌, ℕ, zero, suc, ◌+◌, ◌-◌, ◌<◌, ◌≤◌, Bool, not, ◌&&◌, T, ◌↔◌, ap, ◌∙◌, ap₂, le_refl, arith, ltb→lt, nltb→le, T_not, le-ltb}
 use Rattle.book.specs.Choice.{◌<ᵇ◌, ◌≡ᵇ◌}
-use Rattle.book.proofs.Choice.{cases, and_in, and_second, eq→eqb, ge→false, by_order}
+use Rattle.book.proofs.Choice.{cases, and_in, and_second, eq→eqb, by_order}
 use Rattle.line.specs.Line.{Line, Spot, taken_over, reach, size_in, here}
 use Rattle.line.specs.Rules.{Sound}
 use Rattle.line.proofs.Onward.{by_moves}
@@ -54,7 +48,7 @@ module _ (l : Line) where
   at_last : (s : Spot) → s.place ≤ (here l s.turn).written → P ≤ s.turn → Ends s s
   at_last s h k =
       let w = (here l s.turn).written in
-      (λ f. (omega (arith, nltb→le s.place w f), λ t a b. absurd (omega arith)), λ x. rw (ge→false s.place w (omega (arith, x.0))) tt)
+      (λ f. (omega (arith, nltb→le s.place w f), λ t a b. absurd (omega arith)), λ x. rw (le-ltb s.place w (omega (arith, x.0))) tt)
 
   -- the next turn's spot
   abbrev onward : Spot → Spot

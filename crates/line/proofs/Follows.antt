@@ -1,12 +1,7 @@
 -- The line follows the book: each deed gives the same answer on both, and leaves them agreed; and a line is opened in
 -- agreement with the book. The deeds stand in FollowsPut, FollowsGet and FollowsDesks, and that a step keeps a line
 -- sound in Sound; what the line says of the book's turns, rows, labels and desks is carried on here.
-use mathlib.Core.Path.{◌≡◌, refl, sym, ap, ◌∙◌}
-use mathlib.Core.List.{List, ◌∷◌, map}
-use Prim.Native.Nat.{ℕ, zero, suc, ◌*◌, ◌≤◌}
-use native.Mathlib.Omega.{arith}
-use lib.Dec.{T}
-use lib.ListN.{replicate, take}
+use Rattle.std.proofs.Common.{◌≡◌, ℕ, zero, suc, ◌*◌, ◌≤◌, T, List, ◌∷◌, map, take, replicate, sym, refl, ap, ◌∙◌, arith, le-ltb}
 use Rattle.words.specs.declared.Answer.TheVariants.{Refused}
 use Rattle.words.specs.declared.Refusal.TheVariants.{Badstep}
 use Rattle.book.specs.Sizes.{Size, block_of, fits}
@@ -15,7 +10,6 @@ use Rattle.book.specs.declared.Deed.TheVariants.{Put as put, Get as get, Order a
 use Rattle.book.specs.Steps.{Desk, idle}
 use Rattle.book.specs.Book.{Book}
 use Rattle.book.specs.Book as B
-use Rattle.book.proofs.Choice.{ge→false}
 use Rattle.book.proofs.Total.{replicate_at}
 use Rattle.line.specs.Line.{Line, desk_of, numbers_of, desk_at, unused, record_of, entry_of, label_at, does, opened}
 use Rattle.line.specs.Agrees.{as_row, front, Agrees}
@@ -71,6 +65,6 @@ module _ (z : Size) where
     desks = desks_opened z.t 16 (valid z f).t_most;
     rows = rw (record_opened 0) (omega arith);
     labels = λ s low high i. replicate_at (z.nb * z.ne) (entry_of z s.turn s.place) 0;
-    marks = λ t q h. rw (front_opened t) (sym (ge→false q 0 (omega arith)));
+    marks = λ t q h. rw (front_opened t) (sym (le-ltb q 0 (omega arith)));
     looks = λ d s e h. absurd (looked_not idle (λ x. x) s (sym (desk_opened d) ∙ e));
   })

@@ -2,22 +2,17 @@
 -- and claimed is still the place seen; the book, whether the row still waits and its turn is above K. The first two are
 -- "above K", and above K the rows gone are those below claimed, which the place seen has never passed. A claim that is
 -- won marks that row, and claimed, which is the front, grows by one.
-use mathlib.Core.Path.{◌≡◌, refl, sym, ap, ◌∙◌}
-use mathlib.Core.Logic.{◌≢◌}
-use mathlib.Core.Bool.{Bool, true, false, not, ◌&&◌, and-true, and-false}
-use mathlib.Core.List.{List}
-use Prim.Native.Nat.{ℕ, suc, ◌≤◌, ◌<◌}
-use native.Mathlib.Nat.{le_refl, mod-le}
-use native.Mathlib.Omega.{arith}
-use lib.Dec.{T, ltb, leb, eqb, ltb→lt, lt→ltb, nltb→le, nleb→lt, eqb→eq, eqb_refl}
-use lib.ListN.{length, set}
-use lib.Arith.{lt→nleb, le→nltb, digits_mod}
+use Rattle.std.proofs.Common.{◌≡◌, ℕ, suc, ◌<◌, ◌≤◌, Bool, true, false, not, ◌&&◌, T, eqb, ltb, leb, ◌≢◌, List, length, set, sym, refl, ap, ◌∙◌, le_refl, arith, eqb→eq, ltb→lt, lt→ltb, nltb→le, le-leb}
+use Rattle.std.proofs.Math.Arith.{lt→nleb, le→nltb, digits_mod}
+use Rattle.std.proofs.Math.Bool.{and-true, and-false}
+use Rattle.std.proofs.Math.Dec.{nleb→lt, eqb_refl}
+use Rattle.std.proofs.Math.Nat.{mod-le}
 use Rattle.words.specs.declared.Answer.TheVariants.{Claimed}
 use Rattle.book.specs.Sizes.{block_of, current_turn, is_owned}
 use Rattle.book.specs.Steps.{idle, looked, holding, claimed_at}
 use Rattle.book.specs.Book.{Book, row_at, row_of, mark_gone}
 use Rattle.book.specs.Book as B
-use Rattle.book.proofs.Choice.{by_test₂, same_test, eq→eqb, le→true, and_first, and_second, and_in}
+use Rattle.book.proofs.Choice.{by_test₂, same_test, eq→eqb, and_first, and_second, and_in}
 use Rattle.book.proofs.Rows.{written_is, row_turn, mark_length, mark_label}
 use Rattle.line.specs.Line.{Line, Block, Spot, desk_at, size_of, one_claimed, record_of, size_in}
 use Rattle.line.specs.Line as L
@@ -68,7 +63,7 @@ module _ (l : Line) (b : Book) (g : Agrees (size_of l.head) l b) (d : ℕ) (h : 
   unfolding is_owned
   above_test =
       let u = current_turn (size_in l) p (block_of (size_in l) t) in
-      rw (le→true (block_of (size_in l) t) p (omega (arith, low, mod-le t l.head.nb)))
+      rw (le-leb (block_of (size_in l) t) p (omega (arith, low, mod-le t l.head.nb)))
       (same_test (is_current && not (leb u l.head.k)) (ltb l.head.k t)
       (λ x. let i = eqb→eq u t (and_first is_current (not (leb u l.head.k)) x) in
       lt→ltb l.head.k t (omega (arith, nleb→lt u l.head.k (and_second is_current (not (leb u l.head.k)) x))))
@@ -130,7 +125,7 @@ module _ (l : Line) (b : Book) (g : Agrees (size_of l.head) l b) (d : ℕ) (h : 
         front_same (size_in l) l m u refl refl refl
         (λ a i. ap (λ (x : Block). x.claimed) (record_apart (size_in l) l.table t (one_claimed c) p u window (near l b g u (omega arith) i) n))
 
-    won_matches : Matches (size_in l) m (record { rows = mark_gone b.rows row; k = b.k; desks = set b.desks d (holding (claimed_at row)) })
+    won_matches : Matches (size_in l) m (record b { rows = mark_gone b.rows row; desks = set b.desks d (holding (claimed_at row)) })
     won_matches =
         desk_matches l b g d h (holding (claimed_at s)) tb (mark_gone b.rows row) kept (sees_not l b g tb (holding (claimed_at s)) (λ x. x))
         (mark_length b.rows row) (λ n. mark_label b.rows row n on_list)

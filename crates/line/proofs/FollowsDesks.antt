@@ -2,21 +2,15 @@
 -- K stands at claimed, and one waits where claimed is not written. A fetch hands over the label of the spot that the
 -- desk holds, and a finish adds to finished alone; claim has a file of its own. The grid reads the stage, which is the
 -- same on both sides.
-use mathlib.Core.Path.{◌≡◌, refl, ap, sym, ◌∙◌}
-use mathlib.Core.Bool.{Bool, not}
-use Prim.Native.Nat.{ℕ, ◌≤◌, ◌<◌}
-use native.Mathlib.Nat.{le_refl}
-use native.Mathlib.Omega.{arith}
-use lib.Dec.{not_T, ltb, eqb, ltb→lt, lt→ltb, eqb→eq}
-use lib.ListN.{set}
+use Rattle.std.proofs.Common.{◌≡◌, ℕ, ◌<◌, ◌≤◌, Bool, not, eqb, ltb, set, sym, refl, ap, ◌∙◌, le_refl, arith, eqb→eq, ltb→lt, lt→ltb}
+use Rattle.std.proofs.Math.Dec.{not_T}
 use Rattle.words.specs.declared.Answer.TheVariants.{Took, Refused}
 use Rattle.words.specs.declared.Refusal.TheVariants.{Stage}
 use Rattle.book.specs.Sizes.{Size, block_of, current_turn}
 use Rattle.book.specs.declared.DeskStep.{DeskStep}
 use Rattle.book.specs.declared.DeskStep.TheVariants.{Look as look, Claim as claim, Fetch as fetch, Finish as finish}
 use Rattle.book.specs.Steps.{Desk, idle, looked, Hold, holding, claimed_at, with_fetched, is_fetched, hold_of}
-use Rattle.book.specs.declared.Verdict.TheVariants.{Takes as takes, Refuses as refuses}
-use Rattle.book.specs.Verdicts.{stage, column, at_stage, admitted, lookable}
+use Rattle.book.specs.Verdicts.{takes, refuses, stage, column, at_stage, admitted, lookable}
 use Rattle.book.specs.Book.{Book, row_of, waits}
 use Rattle.book.specs.Book as B
 use Rattle.book.proofs.Choice.{same_test, neq_test, by_test}

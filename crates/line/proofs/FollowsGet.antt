@@ -1,20 +1,13 @@
 -- The line follows the book: get. Where the line's reach stops, the book's turn is the first from K on in which a row
 -- waits, or P; and the reading place there is the first waiting row's. The turns that were passed had all of their rows
 -- gone, so that no front moves but that of the turn read, and there by the one row that is taken.
-use mathlib.Core.Path.{◌≡◌, refl, sym, ap, ◌∙◌, subst}
-use mathlib.Core.Logic.{◌≢◌}
-use mathlib.Core.Bool.{Bool, not}
-use mathlib.Core.List.{List}
-use Prim.Native.Nat.{ℕ, zero, suc, ◌+◌, ◌-◌, ◌≤◌, ◌<◌}
-use native.Mathlib.Nat.{le_refl}
-use native.Mathlib.Omega.{arith}
-use lib.Dec.{T, ltb, eqb, ltb→lt, nltb→le, eqb→eq}
-use lib.ListN.{length}
+use Rattle.std.proofs.Common.{◌≡◌, ℕ, zero, suc, ◌+◌, ◌-◌, ◌<◌, ◌≤◌, Bool, not, T, eqb, ltb, ◌≢◌, List, length, sym, refl, ap, ◌∙◌, subst, le_refl, arith, eqb→eq, ltb→lt, nltb→le, lt-ltb, le-ltb}
+use Rattle.std.proofs.Math.Bool.{and-false}
 use Rattle.words.specs.declared.Answer.TheVariants.{Got}
 use Rattle.book.specs.Sizes.{Size}
 use Rattle.book.specs.Book.{Row, Book, row_at, row_of, mark_gone, written, first, waits, read_turn}
 use Rattle.book.specs.Book as B
-use Rattle.book.proofs.Choice.{by_test, by_test₂, cases, choose_same, T→true, not→false, neq_test, eq→eqb, lt→true, ge→false, and_false}
+use Rattle.book.proofs.Choice.{by_test, by_test₂, cases, choose_same, T→true, not→false, neq_test, eq→eqb}
 use Rattle.book.proofs.Rows.{first_fits, first_in, read_from_lem, read_to, mark_length, mark_label}
 use Rattle.line.specs.Line.{Line, Spot, size_of, with_head, get_at, reach, read_at, get_step, size_in, here}
 use Rattle.line.specs.Agrees.{front, Agrees}
@@ -60,7 +53,7 @@ module _ (l : Line) (b : Book) (g : Agrees (size_of l.head) l b) where
   reach_same zero zero t e h c = refl
   reach_same zero (suc m) t e h c = absurd (omega arith)
   reach_same (suc n) zero t e h c =
-      rw (moves_by (size_in l) p (here l t) (spot t), ge→false t p (omega arith), and_false (eqb (place t) l.head.ne)) (choose_same (ltb (place t) (here l t).written) (spot t))
+      rw (moves_by (size_in l) p (here l t) (spot t), le-ltb t p (omega arith), and-false (eqb (place t) l.head.ne)) (choose_same (ltb (place t) (here l t).written) (spot t))
   reach_same (suc n) (suc m) t e h c =
       rw (moves_by (size_in l) p (here l t) (spot t), waits_same l b g t (near l b g t c (omega arith)))
       (cases (waiting t)
@@ -68,7 +61,7 @@ module _ (l : Line) (b : Book) (g : Agrees (size_of l.head) l b) where
       (λ w. rw (
         not→false (waiting t) w,
         T→true (eqb (place t) l.head.ne) (eq→eqb (place t) l.head.ne (ends t (omega arith) w)),
-        lt→true t p (omega arith),
+        lt-ltb t p (omega arith),
         ← first_above l b g (suc t) (omega arith) (omega arith),
       )
       (reach_same n m (suc t) (omega arith) (omega arith) (omega arith))))

@@ -1,22 +1,14 @@
 -- The line follows the book: put and order. A put appends one row, and the line writes the label at the spot of that
 -- row: the next place of turn P, or place 0 of turn P + 1. Both are one case: a label that goes to place q of turn t,
 -- where turn t and place q are the end of the list. No front moves, since a new turn has none of its rows gone.
-use mathlib.Core.Path.{◌≡◌, refl, sym, ap, ◌∙◌}
-use mathlib.Core.Logic.{◌≢◌}
-use mathlib.Core.Bool.{false}
-use mathlib.Core.List.{List, [], ◌∷◌, ◌++◌}
-use Prim.Native.Nat.{ℕ, zero, suc, ◌+◌, ◌-◌, ◌*◌, ◌≤◌, ◌<◌}
-use native.Mathlib.Nat.{le_refl, mul-le-mul_right}
-use native.Mathlib.Omega.{arith}
-use lib.Dec.{ltb, eqb, ltb→lt, nltb→le, eqb→eq}
-use lib.ListN.{length, length-append, get_or-append}
-use lib.Seq.{get_or-set_same, get_or-set_other, get_or-append_seam}
+use Rattle.std.proofs.Common.{◌≡◌, ℕ, zero, suc, ◌+◌, ◌-◌, ◌*◌, ◌<◌, ◌≤◌, false, eqb, ltb, ◌≢◌, List, [], ◌∷◌, ◌++◌, length, sym, refl, ap, ◌∙◌, le_refl, mul-le-mul_right, arith, eqb→eq, ltb→lt, nltb→le, length-append, get_or-set_other, get_or-set_same}
+use Rattle.std.proofs.Math.ListN.{get_or-append}
+use Rattle.std.proofs.Math.Seq.{get_or-append_seam}
 use Rattle.words.specs.declared.Answer.TheVariants.{Whole, Refused}
 use Rattle.words.specs.declared.Refusal.TheVariants.{Range}
 use Rattle.book.specs.Sizes.{Size, is_order, round_of}
 use Rattle.book.specs.Steps.{looked}
-use Rattle.book.specs.declared.Verdict.TheVariants.{Takes as takes}
-use Rattle.book.specs.Verdicts.{placeable}
+use Rattle.book.specs.Verdicts.{takes, placeable}
 use Rattle.book.specs.Book.{Row, Book, row_at, row_of, append}
 use Rattle.book.specs.Book as B
 use Rattle.book.proofs.Choice.{by_test, by_test₂, cases, neq_test, by_order}

@@ -2,21 +2,16 @@
 -- K claimed. Here are its laws: what it is by where the turn stands, what a change of the line leaves of it, and how a
 -- mark in the book moves it. With it P, written, first and waits of the book are read off the line's records.
 -- What a line and a book that agree say of one another, but for soundness, is `Matches`; `Follows` is a step of both.
-use mathlib.Core.Path.{◌≡◌, refl, sym, ap, ◌∙◌, subst}
-use mathlib.Core.Logic.{◌≢◌}
-use mathlib.Core.List.{List, map}
-use Prim.Native.Nat.{ℕ, suc, ◌+◌, ◌-◌, ◌*◌, ◌≤◌, ◌<◌}
-use native.Mathlib.Nat.{le_refl, mul-le-mul_right}
-use native.Mathlib.Omega.{arith}
-use lib.Dec.{ltb, leb, eqb, ltb→lt, lt→ltb, leb→le, nleb→lt, eqb→eq}
-use lib.ListN.{length, take}
-use lib.Arith.{digits_div}
+use Rattle.std.proofs.Common.{◌≡◌, ℕ, suc, ◌+◌, ◌-◌, ◌*◌, ◌<◌, ◌≤◌, eqb, ltb, leb, ◌≢◌, List, map, length, take, sym, refl, ap, ◌∙◌, subst, le_refl, mul-le-mul_right, arith, eqb→eq, ltb→lt, lt→ltb, leb→le, lt-ltb, le-ltb, le-leb, ne_eqb}
+use Rattle.std.proofs.lemmas.Bool.{lt-leb}
+use Rattle.std.proofs.Math.Arith.{digits_div}
+use Rattle.std.proofs.Math.Dec.{nleb→lt}
 use Rattle.words.specs.declared.Answer.{Answer}
 use Rattle.book.specs.Sizes.{Size}
 use Rattle.book.specs.Steps.{looked}
 use Rattle.book.specs.Book.{Row, Book, row_at, row_of, rows_of, mark_gone, put_turn, written, first, waits}
 use Rattle.book.specs.Book as B
-use Rattle.book.proofs.Choice.{cases, same_test, by_order, neq_test, lt→true, ge→false, le→true, gt→false, neq→eqb, eqb_same}
+use Rattle.book.proofs.Choice.{cases, same_test, by_order, neq_test, eqb_same}
 use Rattle.book.proofs.Rows.{gone_before_prefix, written_is, row_place, mark_same, mark_other}
 use Rattle.book.proofs.Turns.{row_inj}
 use Rattle.line.specs.Line.{Line, Spot, desk_of, desk_at, size_of, record_of, label_at, size_in, here}
@@ -61,19 +56,19 @@ module _ (z : Size) where
   module _ (l : Line) (t : ℕ) where
     pub front_below : t < l.head.k → front z l t ≡ z.ne
     unfolding front
-    front_below h = rw (lt→true t l.head.k h)
+    front_below h = rw (lt-ltb t l.head.k h)
 
     pub front_here : t ≡ l.head.k → front z l t ≡ l.head.reading
     unfolding front
-    front_here e = rw (e, ge→false l.head.k l.head.k (le_refl l.head.k), eqb_same l.head.k)
+    front_here e = rw (e, le-ltb l.head.k l.head.k (le_refl l.head.k), eqb_same l.head.k)
 
     pub front_above : l.head.k < t → t ≤ l.head.p → front z l t ≡ (record_of z l.table t).claimed
     unfolding front
-    front_above h n = rw (ge→false t l.head.k (omega arith), neq→eqb t l.head.k (λ e. omega arith), le→true t l.head.p n)
+    front_above h n = rw (le-ltb t l.head.k (omega arith), ne_eqb t l.head.k (λ e. omega arith), le-leb t l.head.p n)
 
     pub front_past : l.head.k < t → l.head.p < t → front z l t ≡ 0
     unfolding front
-    front_past h n = rw (ge→false t l.head.k (omega arith), neq→eqb t l.head.k (λ e. omega arith), gt→false t l.head.p n)
+    front_past h n = rw (le-ltb t l.head.k (omega arith), ne_eqb t l.head.k (λ e. omega arith), lt-leb t l.head.p n)
 
     -- so a number is the front if it is in each of the four cases
     pub front_is : (n : ℕ) → (t < l.head.k → z.ne ≡ n) → (t ≡ l.head.k → l.head.reading ≡ n)
@@ -107,7 +102,7 @@ module _ (z : Size) where
   mark_front rs f f' t p fits on old new other marks u q h =
       cases (eqb u t)
       (λ s. rw (eqb→eq u t s, new) (cases (eqb q p)
-      (λ r. rw (eqb→eq q p r, mark_same rs (row_of z t p) on) (sym (lt→true p (suc p) (omega arith))))
+      (λ r. rw (eqb→eq q p r, mark_same rs (row_of z t p) on) (sym (lt-ltb p (suc p) (omega arith))))
       (λ r. let n = neq_test q p r in
       rw (mark_other rs (row_of z t p) (row_of z t q) (λ x. n (row_inj z t q t p h fits x).1), marks t q h, old)
       (same_test (ltb q p) (ltb q (suc p))

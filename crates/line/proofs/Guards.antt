@@ -2,13 +2,8 @@
 -- whether the numbers and lengths fit. For the other way round, that a step on a sound line answers neither UNFIT nor
 -- DAMAGED, each step is followed through its tests once: every refusal in them has a later number. At the end, what is
 -- cited of a step and an order on a sound line.
-use mathlib.Core.Path.{◌≡◌, refl, sym, ap, subst}
-use mathlib.Core.Bool.{Bool, true, not, ◌&&◌}
-use mathlib.Core.List.{[]}
-use Prim.Native.Nat.{ℕ, zero, suc, ◌+◌, ◌-◌}
-use native.Mathlib.Omega.{arith}
-use lib.Dec.{T, not_T}
-use lib.ListN.{get_or}
+use Rattle.std.proofs.Common.{◌≡◌, ℕ, zero, suc, ◌+◌, ◌-◌, Bool, true, not, ◌&&◌, T, [], get_or, Ok, Err, sym, refl, ap, subst}
+use Rattle.std.proofs.Math.Dec.{not_T}
 use Rattle.words.specs.declared.Answer.{Answer}
 use Rattle.words.specs.declared.Answer.TheVariants.{Refused}
 use Rattle.words.specs.declared.Refusal.TheVariants.{Unfit, Damaged, Stage}
@@ -21,16 +16,14 @@ use Rattle.book.specs.declared.DeskStep.TheVariants.{Look as look, Claim as clai
 use Rattle.book.specs.declared.Deed.{Deed}
 use Rattle.book.specs.declared.Deed.TheVariants.{Put as put, Get as get, Order as order, Desk as desk, Unlisted as unlisted}
 use Rattle.book.specs.Steps.{Step, decode, Desk, Hold, hold_of}
-use Rattle.book.specs.declared.Verdict.{Verdict}
-use Rattle.book.specs.declared.Verdict.TheVariants.{Takes as takes, Refuses as refuses}
-use Rattle.book.specs.Verdicts.{judge, grid, stage, column, at_stage, no_block, admitted, lookable, startable, placeable}
+use Rattle.book.specs.Verdicts.{Verdict, takes, refuses, judge, grid, stage, column, at_stage, no_block, admitted, lookable, startable, placeable}
 use Rattle.book.proofs.Choice.{by_test, T→true, not→false}
 use Rattle.line.specs.Line.{Line, Outcome, Spot, says, refuse, nowhere, size_of, desk_at, record_of, may_put, with_label, put_step, put_many, order_step}
 use Rattle.line.specs.Line.{read_at, get_step, desk_does, desk_step, does}
 use Rattle.line.specs.Rules.{Sound}
-use Rattle.line.specs.Check.{Checked, sound, unfit, broken, fit, check}
+use Rattle.line.specs.Check.{Checked, Misfit, Broken, fit, check}
 use Rattle.line.specs.Calls.{opens, passes, step, orders}
-use Rattle.line.specs.Survey.{surveys, survey, views, none, surveyed, survey·unfit, survey·damaged}
+use Rattle.line.specs.Survey.{surveys, survey, views, surveyed, survey·unfit, survey·damaged, found}
 use Rattle.line.specs.Demands.{CheckSound, Guarded, StepGuarded, OrderGuarded, SurveyGuarded, OpeningGuarded}
 use Rattle.line.proofs.DeskMoves.{winnable, look_step, claim_step, fetch_step, finish_step, does_look, does_claim, does_fetch, does_finish}
 use Rattle.line.proofs.Tests.{all_at}
@@ -51,21 +44,21 @@ pub later_damaged : (o : Outcome) (n : ℕ) → Later o → o.answer ≡ Refused
 later_damaged o n h e = subst (λ (a : Answer). T (is_later a)) e h
 
 unfit_damaged : Refused Unfit 0 ≡ Refused Damaged 0 → ⊥
-unfit_damaged e = let n = ap (λ (a : Answer). (said a).number) e in omega arith
+unfit_damaged e = cc
 
 -- ---- the verdicts, their refusals given with the value n
 
 module _ (n : ℕ) where
   abbrev is_later_by : Verdict → Bool
-  is_later_by takes = true
-  is_later_by (refuses w) = is_later (Refused w n)
+  is_later_by (Ok u) = true
+  is_later_by (Err w) = is_later (Refused w n)
 
   abbrev LaterBy : Verdict → Type 0
   LaterBy v = T (is_later_by v)
 
   judge_later : (l : Line) (v : Verdict) (o : Outcome) → LaterBy v → Later o → Later (judge v o (λ w. says l (Refused w n)))
-  judge_later l takes o t h = h
-  judge_later l (refuses w) o t h = t
+  judge_later l (Ok u) o t h = h
+  judge_later l (Err w) o t h = t
 
   grid_later : (i j : ℕ) → LaterBy (at_stage i j)
   unfolding all
@@ -149,17 +142,17 @@ module _ (z : Size) where
 -- ---- the guards, by what the check answers
 
 says_guarded : (l : Line) (o : Outcome) → Later o → (c : Checked) → Says l c → Guarded l (judge (passes c) o (refuse l))
-says_guarded l o h sound s = record {
+says_guarded l o h (Ok tt) s = record {
   unfit = (λ e. absurd (later_unfit o 0 h e), λ n. absurd (n s.0));
   damaged = (λ e. absurd (later_damaged o 0 h e), λ n. absurd (n.1 s.1));
   left = λ n. absurd (n s);
 }
-says_guarded l o h unfit s = record {
+says_guarded l o h (Err Misfit) s = record {
   unfit = (λ _. s, λ _. refl);
   damaged = (λ e. absurd (unfit_damaged e), λ n. absurd (s n.0));
   left = λ _. refl;
 }
-says_guarded l o h (broken place rule) s = record {
+says_guarded l o h (Err (Broken place rule)) s = record {
   unfit = (λ e. absurd (unfit_damaged (sym e)), λ n. absurd (n s.0));
   damaged = (λ _. (s.0, broken_unsound l place rule s.1), λ _. refl);
   left = λ _. refl;
@@ -174,13 +167,13 @@ unfolding OrderGuarded orders
 order_guarded l a e = says_guarded l (order_step (size_of l.head) l a e) (order_later (size_of l.head) l a e) (check l) (checked l)
 
 says_surveyed : (l : Line) (c : Checked) → Says l c
-    → ((Fit l → ⊥) → surveys l c ≡ none survey·unfit)
-    × (Fit l → (Sound l → ⊥) → surveys l c ≡ none survey·damaged)
-    × (Fit l → Sound l → (surveys l c).answer ≡ surveyed)
+    → ((Fit l → ⊥) → surveys l c ≡ survey·unfit)
+    × (Fit l → (Sound l → ⊥) → surveys l c ≡ survey·damaged)
+    × (Fit l → Sound l → surveys l c ≡ surveyed (found (surveys l c)))
 unfolding surveys views
-says_surveyed l sound s = (λ n. absurd (n s.0), λ _ n. absurd (n s.1), λ _ _. refl)
-says_surveyed l unfit s = (λ _. refl, λ t. absurd (s t), λ t. absurd (s t))
-says_surveyed l (broken place rule) s = (λ n. absurd (n s.0), λ _ _. refl, λ _ h. absurd (broken_unsound l place rule s.1 h))
+says_surveyed l (Ok tt) s = (λ n. absurd (n s.0), λ _ n. absurd (n s.1), λ _ _. refl)
+says_surveyed l (Err Misfit) s = (λ _. refl, λ t. absurd (s t), λ t. absurd (s t))
+says_surveyed l (Err (Broken place rule)) s = (λ n. absurd (n s.0), λ _ _. refl, λ _ h. absurd (broken_unsound l place rule s.1 h))
 
 pub survey_guarded : SurveyGuarded
 unfolding SurveyGuarded survey

@@ -2,17 +2,10 @@
 -- as many but for that desk; and rule 3 is kept if the new desk obeys it and takes no spot that another desk holds. The record
 -- of one turn changes: every other turn of the window has the record that it had, so only that one turn is looked at; and where
 -- neither claimed nor written falls, rules 2 and 3 are kept.
-use mathlib.Core.Path.{◌≡◌, refl, ap, ◌∙◌}
-use mathlib.Core.Logic.{◌≢◌}
-use mathlib.Core.List.{List}
-use Prim.Native.Nat.{ℕ, ◌+◌, ◌≤◌, ◌<◌}
-use native.Mathlib.Omega.{arith}
-use lib.Dec.{eqb, eqb→eq}
-use lib.ListN.{length, get_or, set, length-set}
-use lib.Seq.{get_or-set_same, get_or-set_other}
+use Rattle.std.proofs.Common.{◌≡◌, ℕ, ◌+◌, ◌<◌, ◌≤◌, eqb, ◌≢◌, List, length, get_or, set, refl, ap, ◌∙◌, arith, eqb→eq, length-set, get_or-set_other, get_or-set_same, ne_eqb}
 use Rattle.book.specs.Sizes.{Size, block_of}
 use Rattle.book.specs.Steps.{Desk, idle, looked, holding, is_fetched}
-use Rattle.book.proofs.Choice.{cases, neq_test, neq→eqb, eqb_same, by_test, T→true, not→false}
+use Rattle.book.proofs.Choice.{cases, neq_test, eqb_same, by_test, T→true, not→false}
 use Rattle.book.proofs.Total.{total_set}
 use Rattle.line.specs.Line.{Line, LentDesk, Block, Head, Spot, numbers_of, desk_of, desk_at, with_desk, with_head, size_in, here}
 use Rattle.line.specs.Rules.{held_in, Holds, Current, DeskRule, Rule3}
@@ -45,7 +38,7 @@ held_one (holding x) s h = rw (h, eqb_same s.turn) refl
 pub held_none : (x : Desk Spot) (t : ℕ) → ((s : Spot) → Holds x s → s.turn ≢ t) → held_in t x ≡ 0
 held_none idle t h = refl
 held_none (looked x) t h = refl
-held_none (holding x) t h = rw (neq→eqb x.at.turn t (h x.at refl)) refl
+held_none (holding x) t h = rw (ne_eqb x.at.turn t (h x.at refl)) refl
 
 pub held_rule : (l : Line) (x : Desk Spot) (s : Spot) → Holds x s → DeskRule l x → Current l s.turn × (s.place < (here l s.turn).claimed)
 held_rule l idle s h o = absurd h
@@ -123,7 +116,7 @@ pub stands_by : {z : Size} {p : ℕ} {ds ds' : List LentDesk} {t : ℕ} {c : Blo
 stands_by e s = record { round = s.round; fits = s.fits; full = s.full; some = s.some; claims = s.claims; zeroth = s.zeroth; holders = rw e s.holders }
 
 abbrev pub with_desks : Head → List LentDesk → Head
-with_desks h ds = record { nb = h.nb; ne = h.ne; t = h.t; reading = h.reading; p = h.p; k = h.k; desks = ds }
+with_desks h ds = record h { desks = ds }
 
 -- what rules 2 and 3 ask of c, the new record of turn t
 pub record Grows (l : Line) (t : ℕ) (c : Block) : Type 0 where

@@ -2,20 +2,14 @@
 -- Of its puts all are taken, or one is the first that is refused (`first`). After the labels placed so far an order goes on as a
 -- shorter one (`goes_on`), so in either case its outcome is known: WHOLE, or that refusal with the number placed. `Said` has for each
 -- answer when it is given and which line is left: one way `Ordered` is read off the answer, the other way the answer is computed.
-use mathlib.Core.Path.{◌≡◌, refl, subst, ◌∙◌}
-use mathlib.Core.Logic.{◌≢◌, ◌⊎◌, inl, inr, ⊎_elim}
-use Prim.Native.Nat.{ℕ, zero, suc, ◌+◌, ◌-◌, ◌<◌}
-use native.Mathlib.Nat.{add-zero, zero-add, suc-add}
-use native.Mathlib.Omega.{arith}
-use lib.Dec.{T}
+use Rattle.std.proofs.Common.{◌≡◌, ℕ, zero, suc, ◌+◌, ◌-◌, ◌<◌, T, ◌≢◌, ◌⊎◌, Ok, Err, refl, ◌∙◌, subst, inl, inr, ⊎_elim, add-zero, suc-add, zero-add, arith}
 use Rattle.words.specs.declared.Answer.{Answer}
 use Rattle.words.specs.declared.Answer.TheVariants.{Whole, Refused}
 use Rattle.words.specs.declared.Refusal.{Refusal}
 use Rattle.words.specs.declared.Refusal.TheVariants.{Range}
 use Rattle.book.specs.Sizes.{Size, is_order}
 use Rattle.book.specs.declared.Deed.TheVariants.{Order as order}
-use Rattle.book.specs.declared.Verdict.{Verdict}
-use Rattle.book.specs.declared.Verdict.TheVariants.{Takes as takes, Refuses as refuses}
+use Rattle.book.specs.Verdicts.{Verdict, takes, refuses}
 use Rattle.book.proofs.Choice.{by_test, T→true, by_order}
 use Rattle.line.specs.Line.{Line, Outcome, says, size_of, may_put, with_label, put_many, order_step, does, size_in}
 use Rattle.line.specs.Rules.{Sound}
@@ -28,8 +22,8 @@ use Rattle.line.proofs.Guards.{orders_does}
 
 -- a proof by a verdict
 verdicts : {C : Type 0} (v : Verdict) → (v ≡ takes → C) → ((w : Refusal) → v ≡ refuses w → C) → C
-verdicts takes f g = f refl
-verdicts (refuses w) f g = g w refl
+verdicts (Ok tt) f g = f refl
+verdicts (Err w) f g = g w refl
 
 shift : (a m : ℕ) → a + suc m ≡ suc a + m
 shift a m = omega arith

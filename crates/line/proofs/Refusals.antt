@@ -2,12 +2,11 @@
 -- A deed is followed test by test: `Says e` says of an outcome that a refusal has the value 0 and that its sentence of
 -- specs/Refusals.antt holds. The other way round, a sentence settles each test of its deed, and so the answer (`when_refused`).
 -- What a refusal leaves is found by following the deeds again; that needs no sound line.
-use mathlib.Core.Path.{◌≡◌, refl, subst}
-use mathlib.Core.Logic.{◌≢◌, ◌↔◌, ◌⊎◌, inl, inr, ⊎_elim}
-use mathlib.Core.Bool.{Bool, true, false, not, ◌&&◌}
-use Prim.Native.Nat.{ℕ, ◌+◌, ◌-◌, ◌≤◌, ◌<◌}
-use native.Mathlib.Nat.{mod-le, le_trans}
-use lib.Dec.{T, T_not, not_T, ltb→lt, nltb→le, leb→le, nleb→lt, eqb→eq}
+use Rattle.std.proofs.Common.{◌≡◌, ℕ, ◌+◌, ◌-◌, ◌<◌, ◌≤◌, Bool, true, false, not, ◌&&◌, T, ◌≢◌, ◌⊎◌, ◌↔◌, refl, subst, inl, inr, ⊎_elim, le_trans, eqb→eq, ltb→lt, leb→le, nltb→le, T_not, lt-ltb, le-ltb, le-leb}
+use Rattle.std.proofs.lemmas.Bool.{lt-leb}
+use Rattle.std.proofs.Math.Bool.{and-false}
+use Rattle.std.proofs.Math.Dec.{not_T, nleb→lt}
+use Rattle.std.proofs.Math.Nat.{mod-le}
 use Rattle.words.specs.declared.Answer.{Answer}
 use Rattle.words.specs.declared.Answer.TheVariants.{Put, Got, Took, Whole, Seen, Claimed, Done, Refused}
 use Rattle.words.specs.declared.Refusal.{Refusal}
@@ -20,11 +19,9 @@ use Rattle.book.specs.declared.Deed.{Deed}
 use Rattle.book.specs.declared.Deed.TheVariants.{Put as put, Get as get, Order as order, Desk as desk, Unlisted as unlisted}
 use Rattle.book.specs.Steps.{Step, decode}
 use Rattle.book.specs.Steps.{Desk, idle, looked, Hold, holding, claimed_at, is_fetched, hold_of}
-use Rattle.book.specs.declared.Verdict.{Verdict}
-use Rattle.book.specs.declared.Verdict.TheVariants.{Refuses as refuses}
-use Rattle.book.specs.Verdicts.{judge, stage, column, at_stage, no_block, admitted, lookable, startable, placeable}
-use Rattle.book.proofs.Choice.{by_test, by_verdict, cases, T→true, not→false, and_first, and_second, and_false}
-use Rattle.book.proofs.Choice.{eq→eqb, eqb_same, lt→true, ge→false, le→true, gt→false}
+use Rattle.book.specs.Verdicts.{Verdict, refuses, judge, stage, column, at_stage, no_block, admitted, lookable, startable, placeable}
+use Rattle.book.proofs.Choice.{by_test, by_verdict, cases, T→true, not→false, and_first, and_second}
+use Rattle.book.proofs.Choice.{eq→eqb, eqb_same}
 use Rattle.book.proofs.Turns.{current_low}
 use Rattle.line.specs.Line.{Line, Outcome, Block, Spot, nowhere, refuse, desk_at, get_at, with_head, size_of, record_of, is_busy, may_put, put_step, order_step, read_at, get_step, size_in, here}
 use Rattle.line.specs.Line.{desk_does, desk_step, does}
@@ -50,7 +47,7 @@ unfolding is_order is_label
 out_of_range a b =
     let low = a ≤ᵇ b in (
       λ n. cases low (λ t. inr (nleb→lt b highest_label (rw (T→true low t) at n))) (λ t. inl (nleb→lt a b t)),
-      ⊎_elim (λ h. rw (gt→false a b h) tt) (λ h. rw (gt→false b highest_label h, and_false low) tt),
+      ⊎_elim (λ h. rw (lt-leb a b h) tt) (λ h. rw (lt-leb b highest_label h, and-false low) tt),
     )
 
 -- what is said of WHOLE and of a refusal; of another answer nothing is said
@@ -114,7 +111,7 @@ module _ (l : Line) where
 
   starts : (a : ℕ) → Starts l a → may_put (size_in l) l a ≡ startable (size_in l) K (is_busy (here l (next - NB))) next
   unfolding may_put placeable is_label
-  starts a s = rw (le→true a highest_label s.label, ge→false (here l P).written l.head.ne s.full)
+  starts a s = rw (le-leb a highest_label s.label, le-ltb (here l P).written l.head.ne s.full)
 
   put_refused : (a : ℕ) (w : Refusal) → may_put (size_in l) l a ≡ refuses w → (put_step (size_in l) l a).answer ≡ Refused w 0
   unfolding put_step
@@ -124,8 +121,7 @@ module _ (l : Line) where
   pub put_range : (a : ℕ) → may_put (size_in l) l a ≢ refuses Range
   put_range a e =
       let (b, c, q, _) = (subst (OfRefusal (Sentence (put a))) (put_refused a Range e) (put_told a)).0 in
-      let r : true ≡ false = cc in
-      subst T r tt
+      cc
 
   -- ---- look at block i, with its current turn t
 
@@ -159,8 +155,8 @@ module _ (l : Line) where
     bare_refused : Bare → lookable (size_in l) P K i (not none) ≡ refuses Nothing
     unfolding lookable is_owned
     bare_refused =
-        ⊎_elim (λ h. rw (gt→false i P h))
-        (λ h. rw (le→true i P h.0, gt→false t K h.1, T→true none (eq→eqb c.claimed c.written h.2)))
+        ⊎_elim (λ h. rw (lt-leb i P h))
+        (λ h. rw (le-leb i P h.0, lt-leb t K h.1, T→true none (eq→eqb c.claimed c.written h.2)))
 
     look_told : (d : ℕ) → Takes l d (look i) → Says (desk d (look i)) (look_step (size_in l) l d i)
     unfolding look_step lookable is_owned
@@ -177,7 +173,7 @@ module _ (l : Line) where
   unfolding is_owned
   owned u e =
       let low : u ≤ P = rw e at (current_low (size_in l) P (block_of (size_in l) u)) in
-      rw (le→true (block_of (size_in l) u) P (le_trans (mod-le u NB) low), e)
+      rw (le-leb (block_of (size_in l) u) P (le_trans (mod-le u NB) low), e)
 
   module _ (s : Spot) where
     abbrev u : ℕ
@@ -195,7 +191,7 @@ module _ (l : Line) where
 
     won : Wins → T (winnable (size_in l) l s)
     unfolding winnable L.wins
-    won h = let (e, k, q) = h in rw (owned u e, gt→false u K k, e, eqb_same u, q, eqb_same s.place) tt
+    won h = let (e, k, q) = h in rw (owned u e, lt-leb u K k, e, eqb_same u, q, eqb_same s.place) tt
 
     claim_told : (d : ℕ) → d < l.head.t → desk_at l.head d ≡ looked s → Says (desk d claim) (claim_step (size_in l) l d s)
     unfolding claim_step
@@ -204,7 +200,7 @@ module _ (l : Line) where
   -- ---- the desks' steps
 
   on_line : (s : DeskStep) → T (not (no_block (size_in l) s)) ↔ OnLine l s
-  on_line (look i) = (nleb→lt NB i, λ h. rw (gt→false NB i h) tt)
+  on_line (look i) = (nleb→lt NB i, λ h. rw (lt-leb NB i h) tt)
   on_line claim = (λ n. n, λ h. h)
   on_line fetch = (λ n. n, λ h. h)
   on_line finish = (λ n. n, λ h. h)
@@ -262,7 +258,7 @@ module _ (l : Line) where
 
   takes_step : (d : ℕ) (s : DeskStep) → Takes l d s → does (size_in l) l (desk d s) ≡ desk_does (size_in l) l d (hold_of nowhere (desk_at l.head d)) s
   unfolding does desk_step admitted
-  takes_step d s k = rw (gt→false l.head.t d k.there, not→false (no_block (size_in l) s) ((on_line s).1 k.on), k.grid)
+  takes_step d s k = rw (lt-leb l.head.t d k.there, not→false (no_block (size_in l) s) ((on_line s).1 k.on), k.grid)
 
   -- ---- every deed, on a sound line
 
@@ -281,24 +277,24 @@ module _ (l : Line) where
     when_refused Unfit e h = absurd h
     when_refused Damaged e h = absurd h
     when_refused Badstep e h = rw h
-    when_refused Nodesk e h = let (d, s, q, n) = h in rw (q, le→true l.head.t d n)
-    when_refused Noblock e h = let (d, i, q, t, n) = h in rw (q, gt→false l.head.t d t, le→true NB i n)
-    when_refused Stage e h = let (d, s, q, t, o, n) = h in rw (q, gt→false l.head.t d t, not→false (no_block (size_in l) s) ((on_line s).1 o), n)
-    when_refused Owned e h = let (d, i, q, k, u, o) = h in rw (q, takes_step d (look i) k, does_look (size_in l) l d, le→true i P u, le→true (turn_at i) K o)
+    when_refused Nodesk e h = let (d, s, q, n) = h in rw (q, le-leb l.head.t d n)
+    when_refused Noblock e h = let (d, i, q, t, n) = h in rw (q, lt-leb l.head.t d t, le-leb NB i n)
+    when_refused Stage e h = let (d, s, q, t, o, n) = h in rw (q, lt-leb l.head.t d t, not→false (no_block (size_in l) s) ((on_line s).1 o), n)
+    when_refused Owned e h = let (d, i, q, k, u, o) = h in rw (q, takes_step d (look i) k, does_look (size_in l) l d, le-leb i P u, le-leb (turn_at i) K o)
     when_refused Nothing e h = let (d, i, q, k, n) = h in rw (q, takes_step d (look i) k, does_look (size_in l) l d, bare_refused i n)
     when_refused Lost e h =
         let (d, s, q, t, x, n) = h in
-        rw (q, gt→false l.head.t d t, x, does_claim (size_in l) l d (claimed_at s), not→false (winnable (size_in l) l s) (not_T (winnable (size_in l) l s) (λ w. n (wins s w))))
-    when_refused Notlabel e h = let (a, q, n) = h in rw (q, gt→false a highest_label n)
+        rw (q, lt-leb l.head.t d t, x, does_claim (size_in l) l d (claimed_at s), not→false (winnable (size_in l) l s) (not_T (winnable (size_in l) l s) (λ w. n (wins s w))))
+    when_refused Notlabel e h = let (a, q, n) = h in rw (q, lt-leb a highest_label n)
     when_refused Range e h = let (a, b, q, n) = h in rw (q, not→false (is_order a b) ((out_of_range a b).1 n))
-    when_refused Worn e h = let (a, q, s, r) = h in rw (q, starts a s, le→true 65536 (round_of (size_in l) next) r)
+    when_refused Worn e h = let (a, q, s, r) = h in rw (q, starts a s, le-leb 65536 (round_of (size_in l) next) r)
     when_refused Full e h =
         let (a, q, s, r, b, k) = h in
-        rw (q, starts a s, gt→false 65536 (round_of (size_in l) next) r, ge→false next NB b, le→true K (next - NB) k)
+        rw (q, starts a s, lt-leb 65536 (round_of (size_in l) next) r, le-ltb next NB b, le-leb K (next - NB) k)
     when_refused Busy e h =
         let (a, q, s, r, b, k, n) = h in
         let c = here l (next - NB) in
-        rw (q, starts a s, gt→false 65536 (round_of (size_in l) next) r, ge→false next NB b, gt→false K (next - NB) k, lt→true c.finished c.claimed n)
+        rw (q, starts a s, lt-leb 65536 (round_of (size_in l) next) r, le-ltb next NB b, lt-leb K (next - NB) k, lt-ltb c.finished c.claimed n)
     when_refused Empty e h = let (q, r, c) = h in rw (q, not→false (is_read l (reached l)) ((empty_when l pos g).1 (r, c)))
 
 pub refused_when : RefusedWhen
@@ -366,7 +362,7 @@ lost_leaves l s n f g x e =
     let (d, y, q, t, k, o) = ((refused_when l s Lost n f g x).0 e).0 in
     let z = size_of l.head in
     let w = winnable z l y in
-    (d, q, rw (step_does l s f g, q, gt→false l.head.t d t, k, does_claim z l d (claimed_at y), not→false w (not_T w (λ v. o (wins l y v)))) refl)
+    (d, q, rw (step_does l s f g, q, lt-leb l.head.t d t, k, does_claim z l d (claimed_at y), not→false w (not_T w (λ v. o (wins l y v)))) refl)
 
 -- a get that is refused leaves K at P, and turn P read to its end
 abbrev Ended : Line → Outcome → Type 0

@@ -1,7 +1,6 @@
 -- Every run: sound in, sound out; the line's answers are the book's; and so counting, "never twice" and the bound hold of
 -- the line's own answers. One step is proofs/Sound.antt and proofs/Follows.antt; here they are added up over a list of steps.
-use mathlib.Core.Path.{◌≡◌, refl, ap₂, ◌∙◌}
-use mathlib.Core.List.{List, [], ◌∷◌, ◌++◌}
+use Rattle.std.proofs.Common.{◌≡◌, List, [], ◌∷◌, ◌++◌, refl, ◌∙◌, ap₂}
 use Rattle.words.specs.declared.Answer.{Answer}
 use Rattle.book.specs.Sizes.{Size, sized, fits}
 use Rattle.book.specs.declared.Deed.TheVariants.{Order as order}

@@ -1,12 +1,9 @@
 -- Sound in, sound out: every step from every sound line leaves a sound line. No history is asked for, and no book: a line that
 -- is lent and passes the check is as good as one that was run from opening. The proofs go step by step (SoundPut, SoundGet,
 -- SoundDesks); here they are put together, and a line as it is opened is shown to be sound.
-use mathlib.Core.Path.{◌≡◌, refl, sym, ap, ◌∙◌}
-use Prim.Native.Nat.{ℕ, ◌*◌, ◌≤◌, zero-le}
-use native.Mathlib.Nat.{zero-div}
-use native.Mathlib.Omega.{arith}
-use lib.Dec.{T}
-use lib.ListN.{replicate, length-replicate}
+use Rattle.std.proofs.Common.{◌≡◌, ℕ, ◌*◌, ◌≤◌, T, replicate, sym, refl, ap, ◌∙◌, zero-le, arith}
+use Rattle.std.proofs.Math.ListN.{length-replicate}
+use Rattle.std.proofs.Math.Nat.{zero-div}
 use Rattle.book.specs.Sizes.{Size, fits, block_of}
 use Rattle.book.specs.declared.Deed.{Deed}
 use Rattle.book.specs.declared.Deed.TheVariants.{Put as put, Get as get, Order as order, Desk as desk, Unlisted as unlisted}

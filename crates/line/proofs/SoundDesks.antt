@@ -2,22 +2,16 @@
 -- that is won raises claimed of a current turn above K, and its desk takes the place that was claimed: it is below written, as
 -- rule 3 says of the look, and nobody held it, since every place that is held is below claimed. Turn 0 is never claimed, being
 -- at most K. A finish raises finished, and the turn has one holder less.
-use mathlib.Core.Path.{◌≡◌, refl, sym, ap, ◌∙◌, subst}
-use mathlib.Core.Logic.{◌≢◌}
-use mathlib.Core.Bool.{not, ◌&&◌}
-use Prim.Native.Nat.{ℕ, ◌<◌}
-use native.Mathlib.Nat.{mod-le}
-use native.Mathlib.Omega.{arith}
-use lib.Dec.{T, leb→le, le→leb, nleb→lt, eqb→eq}
-use lib.ListN.{length, set, length-set}
+use Rattle.std.proofs.Common.{◌≡◌, ℕ, ◌<◌, not, ◌&&◌, T, ◌≢◌, length, set, sym, refl, ap, ◌∙◌, subst, arith, le→leb, eqb→eq, leb→le, length-set, ne_eqb}
+use Rattle.std.proofs.Math.Dec.{nleb→lt}
+use Rattle.std.proofs.Math.Nat.{mod-le}
 use Rattle.book.specs.Choice.{◌≤ᵇ◌, ◌≡ᵇ◌}
 use Rattle.book.specs.Sizes.{Size, block_of, current_turn, is_used, is_owned}
 use Rattle.book.specs.declared.DeskStep.{DeskStep}
 use Rattle.book.specs.declared.DeskStep.TheVariants.{Look as look, Claim as claim, Fetch as fetch, Finish as finish}
 use Rattle.book.specs.Steps.{Desk, idle, looked, Hold, holding, claimed_at, with_fetched, is_fetched, hold_of}
-use Rattle.book.specs.declared.Verdict.{Verdict}
-use Rattle.book.specs.Verdicts.{judge, stage, column, at_stage, no_block, admitted, lookable}
-use Rattle.book.proofs.Choice.{by_test, and_first, and_second, T→true, neq_test, neq→eqb}
+use Rattle.book.specs.Verdicts.{Verdict, judge, stage, column, at_stage, no_block, admitted, lookable}
+use Rattle.book.proofs.Choice.{by_test, and_first, and_second, T→true, neq_test}
 use Rattle.book.proofs.Turns.{current_low, current_high}
 use Rattle.line.specs.Line.{Line, Block, Spot, Outcome, nowhere, numbers_of, desk_at, with_desk, with_head, size_in, here}
 use Rattle.line.specs.Line.{one_claimed, one_finished, refuse, desk_does, desk_step}
@@ -153,7 +147,7 @@ module _ (l : Line) (g : ByTurns l) where
       wins : Lawful (size_in l) (with_record (size_in l) l (with_desk l.head d (holding (claimed_at s))) t c)
       wins =
           both (holding (claimed_at s)) t c grows one_claimed_lem
-          (λ u n. rw (e, neq→eqb t u (λ k. n (sym k))) refl)
+          (λ u n. rw (e, ne_eqb t u (λ k. n (sym k))) refl)
           (window→current (size_in l) p t (some_block l g) won.turn, rw (record_same (size_in l) l.table t c (some_block l g) g.blocks) (omega (arith, won.still)))
           nobody
 
@@ -186,7 +180,7 @@ module _ (l : Line) (g : ByTurns l) where
       finish_lawful =
           both idle held (one_finished (here l held))
           (record { turn = held_turn_lem; claims = omega arith; writes = omega arith; reading = λ k. rw k at g.two.from }) one_finished_lem
-          (λ u n. rw (e, neq→eqb held u (λ k. n (sym k))) refl) tt (λ _ _ _ h. absurd h)
+          (λ u n. rw (e, ne_eqb held u (λ k. n (sym k))) refl) tt (λ _ _ _ h. absurd h)
 
     -- ---- the grid, a stage at a time
 

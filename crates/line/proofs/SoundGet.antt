@@ -1,10 +1,7 @@
 -- A get leaves a sound line sound. It moves only K and the reading place, and only to a spot where the owner may read: its turn
 -- is from K to P, its place from claimed to written of that turn. Where the owner moves on, the new place is claimed of the next
 -- turn, which rule 6 bounds by written; where a label is handed over, the place was below written and grows by one.
-use mathlib.Core.Path.{subst}
-use Prim.Native.Nat.{ℕ, zero, suc, ◌-◌, ◌≤◌, ◌<◌}
-use native.Mathlib.Omega.{arith}
-use lib.Dec.{ltb→lt}
+use Rattle.std.proofs.Common.{ℕ, zero, suc, ◌-◌, ◌<◌, ◌≤◌, subst, arith, ltb→lt}
 use Rattle.book.specs.Choice.{◌<ᵇ◌, ◌≡ᵇ◌}
 use Rattle.book.specs.Sizes.{Size}
 use Rattle.book.proofs.Choice.{by_test, and_second}

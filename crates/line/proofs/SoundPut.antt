@@ -2,20 +2,12 @@
 -- the block of turn Q = P + 1 - NB, if there is one. The put is not FULL, so K is above Q and stays in the window; not BUSY, so
 -- by rule 7 nobody holds a spot of Q, and every spot that is held stays current; a look at Q is no longer asked about written.
 -- Nobody holds a spot of P + 1, since a turn that is held is at most P. Not WORN says that P + 1 is below 65,536 x NB.
-use mathlib.Core.Path.{◌≡◌, refl, ap, ◌∙◌, subst}
-use mathlib.Core.Logic.{◌≢◌}
-use mathlib.Core.Bool.{not}
-use Prim.Native.Nat.{ℕ, zero, suc, ◌+◌, ◌-◌, ◌*◌, ◌≤◌, ◌<◌}
-use native.Mathlib.Nat.{div-lt_iff_lt-mul}
-use native.Mathlib.Omega.{arith}
-use lib.Dec.{ltb→lt, nltb→le, nleb→lt, eqb→eq}
-use lib.ListN.{set, length-set}
+use Rattle.std.proofs.Common.{◌≡◌, ℕ, zero, suc, ◌+◌, ◌-◌, ◌*◌, ◌<◌, ◌≤◌, not, ◌≢◌, set, Ok, Err, refl, ap, ◌∙◌, subst, div-lt_iff_lt-mul, arith, eqb→eq, ltb→lt, nltb→le, length-set}
+use Rattle.std.proofs.Math.Dec.{nleb→lt}
 use Rattle.book.specs.Choice.{◌<ᵇ◌, ◌≤ᵇ◌, ◌≡ᵇ◌}
 use Rattle.book.specs.Sizes.{Size, is_label, is_order, block_of, round_of}
 use Rattle.book.specs.Steps.{idle}
-use Rattle.book.specs.declared.Verdict.{Verdict}
-use Rattle.book.specs.declared.Verdict.TheVariants.{Takes as takes, Refuses as refuses}
-use Rattle.book.specs.Verdicts.{startable, placeable}
+use Rattle.book.specs.Verdicts.{Verdict, takes, startable, placeable}
 use Rattle.book.proofs.Choice.{by_test, by_verdict, cases, T→true, not→false, neq_test}
 use Rattle.book.proofs.Total.{total_zero, total_none}
 use Rattle.line.specs.Line.{Line, LentDesk, Block, Spot, Outcome, numbers_of, desk_of, desk_at, size_of, one_written, entry_of, size_in, here}
@@ -165,8 +157,8 @@ module _ (l : Line) (g : ByTurns l) where
 
   -- the line is lawful where the verdict takes
   abbrev Judged : Line → Verdict → Type 0
-  Judged m takes = Lawful (size_in l) m
-  Judged m (refuses w) = Unit {0}
+  Judged m (Ok u) = Lawful (size_in l) m
+  Judged m (Err w) = Unit {0}
 
   start_lawful : (a : ℕ) → l.head.ne ≤ (here l p).written → Judged (labelled (size_in l) l a (room (size_in l) next 0 new)) (startable (size_in l) l.head.k (is_busy (here l (next - l.head.nb))) next)
   unfolding startable

@@ -1,15 +1,9 @@
 -- The survey tells the truth: bit b of its mask is an idle desk's look at block b, its count is the ones of the mask, and
 -- its lowest is the lowest of them, or 64. First the laws of a mask of Booleans: a Boolean in front doubles the mask and puts
 -- its bit in. Then the Booleans of the survey are the looks at the blocks, and past the last block a look is refused too.
-use mathlib.Core.Path.{◌≡◌, refl, sym, ap, ◌∙◌}
-use mathlib.Core.Logic.{◌≢◌, ◌↔◌}
-use mathlib.Core.Bool.{Bool, true, false, not, ◌&&◌}
-use mathlib.Core.List.{List, [], ◌∷◌}
-use Prim.Native.Nat.{ℕ, zero, suc, ◌+◌, ◌-◌, ◌*◌, ◌/◌, ◌^◌, ◌≤◌, ◌<◌}
-use native.Mathlib.Nat.{zero-add, add-zero, add-suc, suc-add, sub-zero, mul_comm, pow-suc, zero-div, div-div-eq-div-mul}
-use native.Mathlib.Omega.{arith}
-use lib.Dec.{T, eqb}
-use lib.ListN.{length, get_or}
+use Rattle.std.proofs.Common.{◌≡◌, ℕ, zero, suc, ◌+◌, ◌-◌, ◌*◌, ◌/◌, ◌^◌, ◌<◌, ◌≤◌, Bool, true, false, not, ◌&&◌, T, eqb, ◌≢◌, ◌↔◌, List, [], ◌∷◌, length, get_or, Ok, Err, sym, refl, ap, ◌∙◌, add-zero, add-suc, mul_comm, suc-add, pow-suc, zero-add, arith, le-leb}
+use Rattle.std.proofs.lemmas.Bool.{lt-leb}
+use Rattle.std.proofs.Math.Nat.{sub-zero, zero-div, div-div-eq-div-mul}
 use Rattle.words.specs.declared.Answer.{Answer}
 use Rattle.words.specs.declared.Answer.TheVariants.{Put, Got, Took, Whole, Seen, Claimed, Done, Refused}
 use Rattle.words.specs.declared.Refusal.{Refusal}
@@ -18,15 +12,13 @@ use Rattle.book.specs.Sizes.{fits}
 use Rattle.book.specs.declared.DeskStep.TheVariants.{Look as look}
 use Rattle.book.specs.declared.Deed.TheVariants.{Desk as desk}
 use Rattle.book.specs.Steps.{Step, idle, decode}
-use Rattle.book.specs.declared.Verdict.{Verdict}
-use Rattle.book.specs.declared.Verdict.TheVariants.{Takes as takes, Refuses as refuses}
-use Rattle.book.specs.Verdicts.{judge, admitted}
-use Rattle.book.proofs.Choice.{by_test, choose_true, choose_false, and_first, le→true, gt→false}
+use Rattle.book.specs.Verdicts.{Verdict, judge, admitted}
+use Rattle.book.proofs.Choice.{by_test, choose_true, choose_false, and_first}
 use Rattle.line.specs.Line.{Line, Spot, Outcome, size_of, desk_at, desk_step, does, size_in}
 use Rattle.line.specs.Rules.{Sound}
 use Rattle.line.specs.Check.{fit}
 use Rattle.line.specs.Calls.{step}
-use Rattle.line.specs.Survey.{is_seen, seen_from, bit, mask_of, lowest_from, views, surveys, survey}
+use Rattle.line.specs.Survey.{surveyed, found, is_seen, seen_from, bit, mask_of, lowest_from, views, surveys, survey}
 use Rattle.line.specs.Demands.{bit_at, ones, LeastBit, CheckSound, SurveyTells}
 use Rattle.line.proofs.DeskMoves.{look_step, does_look}
 use Rattle.line.proofs.Cells.{valid}
@@ -125,8 +117,8 @@ mask_lowest bs h =
 
 -- the answer of a verdict's outcome is the verdict's answer
 judge_answer : (v : Verdict) (x : Outcome) (f : Refusal → Outcome) → (judge v x f).answer ≡ judge v x.answer (λ w. (f w).answer)
-judge_answer takes x f = refl
-judge_answer (refuses w) x f = refl
+judge_answer (Ok u) x f = refl
+judge_answer (Err w) x f = refl
 
 module _ (l : Line) where
   abbrev seen : ℕ → ℕ → Bool
@@ -135,7 +127,7 @@ module _ (l : Line) where
   -- every desk of the line sees the same
   admitted_same : (d e b : ℕ) → d < l.head.t → e < l.head.t → admitted (size_in l) {A = Spot} d (look b) idle ≡ admitted (size_in l) {A = Spot} e (look b) idle
   unfolding admitted
-  admitted_same d e b h k = rw (gt→false l.head.t d h, gt→false l.head.t e k) refl
+  admitted_same d e b h k = rw (lt-leb l.head.t d h, lt-leb l.head.t e k) refl
 
   look_same : (d e b : ℕ) → (look_step (size_in l) l d b).answer ≡ (look_step (size_in l) l e b).answer
   unfolding look_step
@@ -148,7 +140,7 @@ module _ (l : Line) where
   -- and none sees a block that is not there
   seen_past : (d b : ℕ) → d < l.head.t → l.head.nb ≤ b → seen d b ≡ false
   unfolding desk_step admitted
-  seen_past d b h k = rw (gt→false l.head.t d h, le→true l.head.nb b k) refl
+  seen_past d b h k = rw (lt-leb l.head.t d h, le-leb l.head.nb b k) refl
 
   seen_at : 0 < l.head.t → (n i b : ℕ) → i + n ≡ l.head.nb → get_or (seen_from l i n) b false ≡ seen 0 (i + b)
   unfolding seen_from
@@ -173,11 +165,11 @@ module _ (l : Line) where
       omega (arith, seen_length l.head.nb 0, (valid (size_in l) (and_first a b (and_first (a && b) c f))).nb_most)
 
   module _ (f : T (fit (size_in l) l.table l.entries)) (s : Sound l) where
-    survey_is : survey l ≡ views blocks
+    survey_is : survey l ≡ surveyed (views blocks)
     unfolding survey surveys CheckSound
     survey_is = rw ((check_sound l).1 (f, s)) refl
 
-    survey_bit : (d b : ℕ) → d < l.head.t → bit_at (survey l).mask b ≡ bit (seen d b)
+    survey_bit : (d b : ℕ) → d < l.head.t → bit_at (found (survey l)).mask b ≡ bit (seen d b)
     unfolding views
     survey_bit d b h =
         let there : get_or blocks b false ≡ seen 0 (0 + b) = seen_at (omega arith) l.head.nb 0 b (omega arith) in

@@ -1,13 +1,8 @@
 -- Tests and sentences. A test tells a sentence if it passes exactly where the sentence holds: `Tells test sentence`. Here
 -- are the laws for the tests of numbers, for their combinations and for searches over a list. They are written as the
 -- test is, `le and lt and (eq implies lt)`; the numbers compared are found from the sentence.
-use Rattle.std.specs.Prelude.{if◌then◌else◌}
-use mathlib.Core.Path.{◌≡◌, refl, ap, ◌∙◌}
-use mathlib.Core.Bool.{Bool, true, false, not, ◌&&◌, ◌||◌}
-use mathlib.Core.List.{List, [], ◌∷◌}
-use Prim.Native.Nat.{ℕ, zero, suc, ◌≤◌, ◌<◌}
-use lib.Dec.{T, T_not, not_T, ltb, leb, eqb, leb→le, le→leb, ltb→lt, lt→ltb, eqb→eq}
-use lib.ListN.{get_or}
+use Rattle.std.proofs.Common.{◌≡◌, ℕ, zero, suc, ◌<◌, ◌≤◌, Bool, true, false, not, ◌&&◌, ◌||◌, T, eqb, ltb, leb, List, [], ◌∷◌, get_or, if◌then◌else◌, refl, ap, ◌∙◌, le→leb, eqb→eq, ltb→lt, lt→ltb, leb→le, T_not}
+use Rattle.std.proofs.Math.Dec.{not_T}
 use Rattle.book.specs.Total.{any, all}
 use Rattle.book.proofs.Choice.{eq→eqb}
 

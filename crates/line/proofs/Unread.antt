@@ -1,18 +1,13 @@
 -- Entries are not checked: no rule reads one, and no look does.
-use mathlib.Core.Path.{◌≡◌, refl, ap, ap₂}
-use mathlib.Core.Bool.{Bool}
-use mathlib.Core.List.{List, [], ◌∷◌}
-use Prim.Native.Nat.{ℕ, zero, suc}
+use Rattle.std.proofs.Common.{◌≡◌, ℕ, zero, suc, Bool, List, [], ◌∷◌, Ok, Err, refl, ap, ap₂}
 use Rattle.words.specs.declared.Answer.{Answer}
 use Rattle.book.specs.declared.DeskStep.TheVariants.{Look as look}
-use Rattle.book.specs.declared.Verdict.{Verdict}
-use Rattle.book.specs.declared.Verdict.TheVariants.{Takes as takes, Refuses as refuses}
-use Rattle.book.specs.Verdicts.{judge, admitted}
+use Rattle.book.specs.Verdicts.{Verdict, judge, admitted}
 use Rattle.book.specs.Steps.{idle}
 use Rattle.line.specs.Line.{Line, Outcome, size_of, refuse, moved_by, desk_does, desk_step}
 use Rattle.line.specs.Rules.{Rule, rule1, rule2, rule3, rule4, rule5, rule6, rule7, RuleAt, in_order}
-use Rattle.line.specs.Check.{Checked, sound, unfit, broken, fit, holds, first_broken, check}
-use Rattle.line.specs.Survey.{is_seen, seen_from, views, surveys, survey}
+use Rattle.line.specs.Check.{Checked, fit, holds, first_broken, check}
+use Rattle.line.specs.Survey.{is_seen, seen_from, views, surveyed, surveys, survey}
 use Rattle.line.specs.Demands.{with_entries, CheckUnread, SurveyUnread}
 
 module _ (l : Line) (es : List ℕ) where
@@ -35,8 +30,8 @@ module _ (l : Line) (es : List ℕ) where
   broken_unread (q ∷ qs) = rw (holds_unread q.place q.rule, broken_unread qs) refl
 
   answer_unread : (v : Verdict) (o p : Outcome) → o.answer ≡ p.answer → (judge v o (refuse other)).answer ≡ (judge v p (refuse l)).answer
-  answer_unread takes o p e = e
-  answer_unread (refuses w) o p e = refl
+  answer_unread (Ok u) o p e = e
+  answer_unread (Err w) o p e = refl
 
   look_unread : (i : ℕ) → (desk_step (size_of l.head) other 0 (look i) idle).answer ≡ (desk_step (size_of l.head) l 0 (look i) idle).answer
   unfolding desk_step desk_does moved_by
@@ -49,9 +44,8 @@ module _ (l : Line) (es : List ℕ) where
 
   surveys_unread : (c : Checked) → surveys other c ≡ surveys l c
   unfolding surveys
-  surveys_unread sound = ap views (from_unread 0 l.head.nb)
-  surveys_unread unfit = refl
-  surveys_unread (broken place rule) = refl
+  surveys_unread (Ok u) = ap (λ (bs : List Bool). surveyed (views bs)) (from_unread 0 l.head.nb)
+  surveys_unread (Err f) = refl
 
 pub check_unread : CheckUnread
 unfolding CheckUnread check fit

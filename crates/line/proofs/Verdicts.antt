@@ -1,18 +1,14 @@
 -- Laws of the verdicts that line and book share: what follows from one verdict on both sides, and what a verdict that
 -- takes says. A test is asked only where it matters, and so two tests that agree there give one verdict: whether a row
 -- waits, of a current turn above K; BUSY, of the turn that stands NB before the one to be started.
-use mathlib.Core.Path.{◌≡◌, refl, subst}
-use mathlib.Core.Bool.{Bool, ◌&&◌}
-use Prim.Native.Nat.{ℕ, ◌+◌, ◌≤◌, ◌<◌}
-use lib.Dec.{ltb, leb, nltb→le, leb→le, nleb→lt}
+use Rattle.std.proofs.Common.{◌≡◌, ℕ, ◌+◌, ◌<◌, ◌≤◌, Bool, ◌&&◌, ltb, leb, Ok, Err, refl, subst, leb→le, nltb→le}
+use Rattle.std.proofs.Math.Dec.{nleb→lt}
 use Rattle.words.specs.declared.Refusal.{Refusal}
 use Rattle.words.specs.declared.Refusal.TheVariants.{Nodesk, Noblock, Owned, Nothing}
 use Rattle.book.specs.Sizes.{Size, current_turn, is_owned}
 use Rattle.book.specs.declared.DeskStep.{DeskStep}
 use Rattle.book.specs.Steps.{Desk}
-use Rattle.book.specs.declared.Verdict.{Verdict}
-use Rattle.book.specs.declared.Verdict.TheVariants.{Takes as takes, Refuses as refuses}
-use Rattle.book.specs.Verdicts.{judge, stage, column, at_stage, no_block, admitted, lookable, startable, placeable}
+use Rattle.book.specs.Verdicts.{Verdict, takes, refuses, judge, stage, column, at_stage, no_block, admitted, lookable, startable, placeable}
 use Rattle.book.proofs.Choice.{by_test, cases, T→true, not→false, and_first}
 
 -- ---- one verdict on both sides
@@ -22,17 +18,13 @@ pub by_verdict₂ : {A B : Type 0} (P : A → B → Type 0) (v u : Verdict) {x :
 by_verdict₂ P v u {x} {f} {y} {h} e g r = subst (λ (c : Verdict). P (judge v x f) (judge c y h)) e (both v g r)
   where
     both : (c : Verdict) → (c ≡ takes → P x y) → ((w : Refusal) → P (f w) (h w)) → P (judge c x f) (judge c y h)
-    both takes g r = g refl
-    both (refuses w) g r = r w
+    both (Ok tt) g r = g refl
+    both (Err w) g r = r w
 
 -- ---- a refusal does not take
 
-abbrev Refuses : Verdict → Type 0
-Refuses takes = ⊥
-Refuses (refuses w) = Unit {0}
-
 pub refuses_not : (w : Refusal) → refuses w ≡ takes → ⊥
-refuses_not w e = subst Refuses e tt
+refuses_not w e = cc
 
 module _ (z : Size) where
   -- ---- a desk's step

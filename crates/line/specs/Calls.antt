@@ -1,18 +1,25 @@
 -- What a caller gets: opening, a step, an order. UNFIT and DAMAGED are tested before anything else is read.
-use Rattle.std.specs.Prelude.{List, [], ◌∷◌, ℕ, if◌then◌else◌}
+use Rattle.std.specs.Prelude.{List, [], ◌∷◌, ℕ, if◌then◌else◌, Result, Ok, Err}
 use Rattle.words.specs.declared.Answer.{Answer}
-use Rattle.words.specs.declared.Refusal.TheVariants.{Unfit, Damaged}
+use Rattle.words.specs.declared.Refusal.{Refusal}
+use Rattle.words.specs.declared.Refusal.TheVariants.{Unfit}
 use Rattle.book.specs.Sizes.{Size}
 use Rattle.book.specs.Steps.{Step, decode}
-use Rattle.book.specs.declared.Verdict.{Verdict}
-use Rattle.book.specs.declared.Verdict.TheVariants.{Takes as takes, Refuses as refuses}
-use Rattle.book.specs.Verdicts.{judge}
+use Rattle.book.specs.Verdicts.{Verdict, takes, refuses, judge}
 use Rattle.line.specs.Line.{Line, Outcome, size_of, refuse, order_step, does, opened}
-use Rattle.line.specs.Check.{Checked, sound, unfit, broken, fit, check}
-pub use Rattle.line.specs.declared.Opening.{Opening}
-pub use Rattle.line.specs.declared.Opening.TheVariants.{Open as open·line, Unfit as open·unfit}
+use Rattle.line.specs.Check.{Checked, refusal_of, fit, check}
 
 -- ---- opening
+
+-- a line is open, or opening is refused
+abbrev pub Opening : Type 0
+Opening = Result Unit Refusal
+
+abbrev pub open·line : Opening
+open·line = Ok tt
+
+abbrev pub open·unfit : Opening
+open·unfit = Err Unfit
 
 pub record Opened : Type 0 where
   pub line : Line
@@ -26,9 +33,8 @@ opens l z =
 -- ---- a step, an order, and runs of steps
 
 abbrev pub passes : Checked → Verdict
-passes sound = takes
-passes unfit = refuses Unfit
-passes (broken place rule) = refuses Damaged
+passes (Ok u) = takes
+passes (Err f) = refuses (refusal_of f)
 
 unfoldable pub step : Line → Step → Outcome
 step l s = judge (passes (check l)) (does (size_of l.head) l (decode s)) (refuse l)

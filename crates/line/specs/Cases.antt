@@ -13,7 +13,7 @@ use Rattle.line.specs.Line.{Line, Outcome, says, numbers_of, opened}
 use Rattle.line.specs.Calls.{Opened, open·line, open·unfit, opens, step, orders, answers, after}
 use Rattle.line.specs.Check.{sound, unfit, broken}
 use Rattle.line.specs.Numbers.{opening_said, check_said, survey_said}
-use Rattle.line.specs.Survey.{Surveyed, surveyed, survey·unfit, survey·damaged, Findings, survey}
+use Rattle.line.specs.Survey.{Surveyed, surveyed, survey·unfit, survey·damaged, survey}
 use Rattle.line.specs.Samples.{claimed, fetched, size, spot, fresh, started, middle, read, won, ends, stolen, five, lengths, short}
 use Rattle.line.specs.Samples.{with_p, with_k, with_reading, with_desk, with_stage, with_round, with_written, with_claimed, with_finished, with_entry}
 
@@ -248,13 +248,13 @@ OrderCases =
 
 pub record Look : Type 0 where
   pub line : Line
-  pub views : Findings
+  pub views : Surveyed
 
 abbrev tells : Line → ℕ → ℕ → ℕ → Look
-tells l mask count lowest = record { line = l; views = record { answer = surveyed; mask = mask; count = count; lowest = lowest } }
+tells l mask count lowest = record { line = l; views = surveyed (record { mask = mask; count = count; lowest = lowest }) }
 
 abbrev refused : Line → Surveyed → Look
-refused l a = record { line = l; views = record { answer = a; mask = 0; count = 0; lowest = 64 } }
+refused l a = record { line = l; views = a }
 
 abbrev pub Tells : List Look → Type 0
 Tells ss = map (λ s. survey s.line) ss ≡ map (λ s. s.views) ss
@@ -324,8 +324,9 @@ NumberCases =
     × ((place rule : ℕ) → map check_said (sound ∷ unfit ∷ broken place rule ∷ [])
     ≡ record { number = 0; place = 0; rule = 0 } ∷ record { number = 1; place = 0; rule = 0 } ∷ record { number = 2; place = place; rule = rule } ∷ [])
     × ((mask count lowest : ℕ)
-    → map (λ a. survey_said (record { answer = a; mask = mask; count = count; lowest = lowest })) (surveyed ∷ survey·unfit ∷ survey·damaged ∷ [])
-    ≡ map (λ n. record { number = n; mask = mask; count = count; lowest = lowest }) (0 ∷ 1 ∷ 2 ∷ []))
+    → map survey_said (surveyed (record { mask = mask; count = count; lowest = lowest }) ∷ survey·unfit ∷ survey·damaged ∷ [])
+    ≡ record { number = 0; mask = mask; count = count; lowest = lowest }
+    ∷ map (λ n. record { number = n; mask = 0; count = 0; lowest = 64 }) (1 ∷ 2 ∷ []))
 
 -- ---- the cases that compute, all of them
 

@@ -1,13 +1,33 @@
 -- The check: do the lengths fit, and which rule is the first broken, by the tests of specs/Tests.antt in the paper's order.
 -- Proved to be what specs/Rules.antt says.
-use Rattle.std.specs.Prelude.{Bool, List, [], ◌∷◌, ℕ, length, get_or, if◌then◌else◌}
+use Rattle.std.specs.Prelude.{Bool, List, [], ◌∷◌, ℕ, length, get_or, if◌then◌else◌, Result, Ok, Err}
+use Rattle.words.specs.declared.Refusal.{Refusal}
+use Rattle.words.specs.declared.Refusal.TheVariants.{Unfit, Damaged}
 use Rattle.book.specs.Total.{total}
 use Rattle.book.specs.Sizes.{Size, is_used, current_turn}
 use Rattle.line.specs.Line.{Line, Block, desk_of, unused, size_in, here}
 use Rattle.line.specs.Rules.{held_in, Rule, rule1, rule2, rule3, rule4, rule5, rule6, rule7, rule_number, RuleAt, in_order}
 use Rattle.line.specs.Tests.{fitting, obeys1, obeys2, obeys3, obeys4, obeys5, obeys6, obeys7}
-pub use Rattle.line.specs.declared.Checked.{Checked}
-pub use Rattle.line.specs.declared.Checked.TheVariants.{Sound as sound, Unfit as unfit, Broken as broken}
+pub use Rattle.line.specs.declared.Fault.{Fault}
+pub use Rattle.line.specs.declared.Fault.TheVariants.{Unfit as Misfit, Broken}
+
+-- what the check answers: sound, UNFIT, or the place and the rule
+abbrev pub Checked : Type 0
+Checked = Result Unit Fault
+
+abbrev pub sound : Checked
+sound = Ok tt
+
+abbrev pub unfit : Checked
+unfit = Err Misfit
+
+abbrev pub broken : ℕ → ℕ → Checked
+broken place rule = Err (Broken place rule)
+
+-- with what a step, an order and the survey are refused then
+abbrev pub refusal_of : Fault → Refusal
+refusal_of Misfit = Unfit
+refusal_of (Broken place rule) = Damaged
 
 -- the numbers within their limits, and the lent lengths NB and NB x NE
 unfoldable pub fit : Size → List Block → List ℕ → Bool

@@ -9,7 +9,7 @@ use Rattle.book.specs.declared.DeskStep.TheVariants.{Look as look, Claim as clai
 use Rattle.book.specs.declared.Deed.{Deed}
 use Rattle.book.specs.declared.Deed.TheVariants.{Get as get, Order as order, Desk as desk}
 use Rattle.book.specs.Steps.{Step, Hold, idle, holding, decode}
-use Rattle.book.specs.declared.Verdict.TheVariants.{Refuses as refuses}
+use Rattle.book.specs.Verdicts.{refuses}
 use Rattle.book.specs.Book as B
 use Rattle.book.specs.Messages.{put}
 use Rattle.book.specs.WornCases.{put_and_get, placed_and_got}
@@ -19,7 +19,7 @@ use Rattle.line.specs.Line.{Line, Outcome, desk_at, get_at, with_desk, with_head
 use Rattle.line.specs.Rules.{Sound, RuleAt, rule_number, in_order, Obeys}
 use Rattle.line.specs.Check.{sound, unfit, broken, fit, check}
 use Rattle.line.specs.Calls.{open·line, open·unfit, opens, step, orders, answers, after}
-use Rattle.line.specs.Survey.{survey, surveyed, survey·unfit, survey·damaged, none}
+use Rattle.line.specs.Survey.{survey, surveyed, survey·unfit, survey·damaged, found}
 use Rattle.line.specs.Refusals.{When, after_puts, Places}
 use Rattle.line.specs.Agrees.{Lawful, Agrees}
 
@@ -54,7 +54,7 @@ CheckNames = (l : Line) (place rule : ℕ) → Fit l → FirstBroken l place rul
 
 -- entries are not checked: whatever as many entries hold, check and survey are the same
 abbrev pub with_entries : Line → List ℕ → Line
-with_entries l es = record { head = l.head; table = l.table; entries = es }
+with_entries l es = record l { entries = es }
 
 unfoldable pub CheckUnread : Type 0
 CheckUnread = (l : Line) (es : List ℕ) → length es ≡ length l.entries → check (with_entries l es) ≡ check l
@@ -78,9 +78,9 @@ OrderGuarded = (l : Line) (a e : ℕ) → Guarded l (orders l a e)
 unfoldable pub SurveyGuarded : Type 0
 SurveyGuarded =
     (l : Line)
-    → ((Fit l → ⊥) → survey l ≡ none survey·unfit)
-    × (Fit l → (Sound l → ⊥) → survey l ≡ none survey·damaged)
-    × (Fit l → Sound l → (survey l).answer ≡ surveyed)
+    → ((Fit l → ⊥) → survey l ≡ survey·unfit)
+    × (Fit l → (Sound l → ⊥) → survey l ≡ survey·damaged)
+    × (Fit l → Sound l → survey l ≡ surveyed (found (survey l)))
 
 -- opening refuses exactly numbers or lengths that do not fit, and then leaves what was lent
 unfoldable pub OpeningGuarded : Type 0
@@ -217,11 +217,11 @@ Sees o = (place : ℕ) × (o.answer ≡ Seen place)
 
 pub record SurveyNames (l : Line) : Type 0 where
   -- bit b is set exactly if an idle desk's look at block b would be SEEN
-  pub bits : (d b : ℕ) → d < l.head.t → (bit_at (survey l).mask b ≡ 1) ↔ Sees (desk_step (size_in l) l d (look b) idle)
+  pub bits : (d b : ℕ) → d < l.head.t → (bit_at (found (survey l)).mask b ≡ 1) ↔ Sees (desk_step (size_in l) l d (look b) idle)
   -- and so if the look of a desk that is idle is
-  pub looks : (d b : ℕ) (s : Step) → desk_at l.head d ≡ idle → d < l.head.t → decode s ≡ desk d (look b) → (bit_at (survey l).mask b ≡ 1) ↔ Sees (step l s)
-  pub count : (survey l).count ≡ ones 64 (survey l).mask
-  pub lowest : LeastBit (survey l).mask (survey l).lowest
+  pub looks : (d b : ℕ) (s : Step) → desk_at l.head d ≡ idle → d < l.head.t → decode s ≡ desk d (look b) → (bit_at (found (survey l)).mask b ≡ 1) ↔ Sees (step l s)
+  pub count : (found (survey l)).count ≡ ones 64 (found (survey l)).mask
+  pub lowest : LeastBit (found (survey l)).mask (found (survey l)).lowest
 
 unfoldable pub SurveyTells : Type 0
 SurveyTells = (l : Line) → Fit l → Sound l → SurveyNames l

@@ -1,7 +1,7 @@
 -- Labels come out in the order they went in: what the book's order (book/specs/Order.antt) says of the line's own answers.
 -- proofs/FirstOut.antt has a proof of each statement, under the same name in small letters.
-use Rattle.std.specs.Prelude.{◌≡◌, T, take}
-use mathlib.Core.List.{List, Sublistᴰ as Sublist}
+use Rattle.std.specs.Prelude.{◌≡◌, T, List, take}
+use mathlib.Core.List.{Sublistᴰ as Sublist}
 use Rattle.book.specs.Sizes.{Size, fits}
 use Rattle.book.specs.Steps.{Step}
 use Rattle.book.specs.Counts.{got, won, handed}

@@ -11,8 +11,7 @@ use Rattle.book.specs.declared.DeskStep.TheVariants.{Look as look, Claim as clai
 use Rattle.book.specs.declared.Deed.{Deed}
 use Rattle.book.specs.declared.Deed.TheVariants.{Put as put, Get as get, Order as order, Desk as desk, Unlisted as unlisted}
 use Rattle.book.specs.Steps.{Hold, Desk, idle, looked, holding, claimed_at, with_fetched, hold_of}
-use Rattle.book.specs.declared.Verdict.{Verdict}
-use Rattle.book.specs.Verdicts.{judge, stage, admitted, lookable, placeable}
+use Rattle.book.specs.Verdicts.{Verdict, judge, stage, admitted, lookable, placeable}
 pub use Rattle.line.specs.declared.Desk.{Desk as LentDesk}
 pub use Rattle.line.specs.declared.Block.{Block}
 pub use Rattle.line.specs.declared.Head.{Head}
@@ -67,13 +66,13 @@ desk_at h d = desk_of (get_or h.desks d (numbers_of idle))
 -- ---- a changed head, record, line
 
 abbrev pub put_at : Head → ℕ → Head
-put_at h p = record { nb = h.nb; ne = h.ne; t = h.t; reading = h.reading; p = p; k = h.k; desks = h.desks }
+put_at h p = record h { p = p }
 
 abbrev pub get_at : Head → Spot → Head
-get_at h s = record { nb = h.nb; ne = h.ne; t = h.t; reading = s.place; p = h.p; k = s.turn; desks = h.desks }
+get_at h s = record h { reading = s.place; k = s.turn }
 
 abbrev pub with_numbers : Head → ℕ → LentDesk → Head
-with_numbers h d x = record { nb = h.nb; ne = h.ne; t = h.t; reading = h.reading; p = h.p; k = h.k; desks = set h.desks d x }
+with_numbers h d x = record h { desks = set h.desks d x }
 
 abbrev pub with_desk : Head → ℕ → Desk Spot → Head
 with_desk h d x = with_numbers h d (numbers_of x)
@@ -86,20 +85,20 @@ abbrev pub new_turn : ℕ → Block
 new_turn r = record { round = r; written = 1; claimed = 0; finished = 0 }
 
 abbrev pub one_written : Block → Block
-one_written c = record { round = c.round; written = suc c.written; claimed = c.claimed; finished = c.finished }
+one_written c = record c { written = suc c.written }
 
 abbrev pub one_claimed : Block → Block
-one_claimed c = record { round = c.round; written = c.written; claimed = suc c.claimed; finished = c.finished }
+one_claimed c = record c { claimed = suc c.claimed }
 
 abbrev pub one_finished : Block → Block
-one_finished c = record { round = c.round; written = c.written; claimed = c.claimed; finished = suc c.finished }
+one_finished c = record c { finished = suc c.finished }
 
 -- claimed is above finished: a desk has claimed or fetched there and not finished
 abbrev pub is_busy : Block → Bool
 is_busy c = c.finished <ᵇ c.claimed
 
 abbrev pub with_head : Line → Head → Line
-with_head l h = record { head = h; table = l.table; entries = l.entries }
+with_head l h = record l { head = h }
 
 -- ---- what a desk's step leaves of the desk and of the one record that it reads; here of the two steps that no test decides
 
@@ -222,7 +221,7 @@ module _ (z : Size) where
 
   abbrev pub with_moved : Line → ℕ → ℕ → Moved → Outcome
   with_moved l d t m =
-      says (record { head = with_numbers l.head d m.desk; table = set l.table (block_of z t) m.block; entries = l.entries }) m.answer
+      says (record l { head = with_numbers l.head d m.desk; table = set l.table (block_of z t) m.block }) m.answer
 
   -- the step of desk d, which the grid lets it take, with what it holds, or saw
   unfoldable pub desk_does : Line → ℕ → Hold Spot → DeskStep → Outcome

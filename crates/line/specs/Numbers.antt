@@ -1,17 +1,12 @@
 -- What opening, the check and the survey say: the paper's number, or 0 where nothing is refused, and the values of each
 -- case. `said` of words does the same for the answers of a step and of an order. The promises of every call use these
 -- definitions.
-use Rattle.std.specs.Prelude.{ℕ}
+use Rattle.std.specs.Prelude.{ℕ, Ok, Err}
 use Rattle.words.specs.declared.Refusal.{Refusal}
-use Rattle.words.specs.declared.Refusal.TheVariants.{Unfit, Damaged}
 use Rattle.words.specs.Words.{refusal}
-use Rattle.line.specs.declared.Opening.{Opening}
-use Rattle.line.specs.declared.Opening.TheVariants.{Open, Unfit as NoLine}
-use Rattle.line.specs.declared.Checked.{Checked}
-use Rattle.line.specs.declared.Checked.TheVariants.{Sound, Unfit as Misfit, Broken}
-use Rattle.line.specs.declared.Surveyed.{Surveyed}
-use Rattle.line.specs.declared.Surveyed.TheVariants.{Survey, Unfit as NoSurvey, Damaged as Unsound}
-use Rattle.line.specs.declared.Findings.{Findings}
+use Rattle.line.specs.Check.{Misfit, Broken, Checked, refusal_of}
+use Rattle.line.specs.Calls.{Opening}
+use Rattle.line.specs.Survey.{Surveyed, found}
 
 abbrev number : Refusal → ℕ
 number w = (refusal w).0
@@ -23,8 +18,8 @@ pub record OpeningSaid : Type 0 where
   pub value : ℕ
 
 abbrev pub opening_said : Opening → OpeningSaid
-opening_said Open = record { number = 0; value = 0 }
-opening_said NoLine = record { number = number Unfit; value = 0 }
+opening_said (Ok u) = record { number = 0; value = 0 }
+opening_said (Err w) = record { number = number w; value = 0 }
 
 -- ---- the check: DAMAGED is said with the place and the rule
 
@@ -34,9 +29,9 @@ pub record CheckSaid : Type 0 where
   pub rule : ℕ
 
 abbrev pub check_said : Checked → CheckSaid
-check_said Sound = record { number = 0; place = 0; rule = 0 }
-check_said Misfit = record { number = number Unfit; place = 0; rule = 0 }
-check_said (Broken place rule) = record { number = number Damaged; place = place; rule = rule }
+check_said (Ok u) = record { number = 0; place = 0; rule = 0 }
+check_said (Err Misfit) = record { number = number (refusal_of Misfit); place = 0; rule = 0 }
+check_said (Err (Broken place rule)) = record { number = number (refusal_of (Broken place rule)); place = place; rule = rule }
 
 -- ---- the survey
 
@@ -47,9 +42,8 @@ pub record SurveySaid : Type 0 where
   pub lowest : ℕ
 
 abbrev pub survey_number : Surveyed → ℕ
-survey_number Survey = 0
-survey_number NoSurvey = number Unfit
-survey_number Unsound = number Damaged
+survey_number (Ok v) = 0
+survey_number (Err w) = number w
 
-abbrev pub survey_said : Findings → SurveySaid
-survey_said v = record { number = survey_number v.answer; mask = v.mask; count = v.count; lowest = v.lowest }
+abbrev pub survey_said : Surveyed → SurveySaid
+survey_said r = let v = found r in record { number = survey_number r; mask = v.mask; count = v.count; lowest = v.lowest }

@@ -9,8 +9,7 @@ use Rattle.book.specs.declared.DeskStep.TheVariants.{Look as look, Claim as clai
 use Rattle.book.specs.declared.Deed.{Deed}
 use Rattle.book.specs.declared.Deed.TheVariants.{Put as put, Get as get, Order as order, Desk as desk, Unlisted as unlisted}
 use Rattle.book.specs.Steps.{looked}
-use Rattle.book.specs.declared.Verdict.TheVariants.{Takes as takes, Refuses as refuses}
-use Rattle.book.specs.Verdicts.{stage, column, at_stage}
+use Rattle.book.specs.Verdicts.{takes, refuses, stage, column, at_stage}
 use Rattle.line.specs.Line.{Line, Spot, desk_at, with_label, may_put, size_in, here}
 use Rattle.line.specs.Rules.{Current}
 

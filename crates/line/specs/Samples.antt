@@ -115,34 +115,22 @@ abbrev pub with_reading : ℕ → Line → Line
 with_reading n l = with_head l (get_at l.head (spot l.head.k n))
 
 abbrev pub on_desk : ℕ → (LentDesk → LentDesk) → Line → Line
-on_desk d f l = record {
-  head = record {
-    nb = l.head.nb;
-    ne = l.head.ne;
-    t = l.head.t;
-    reading = l.head.reading;
-    p = l.head.p;
-    k = l.head.k;
-    desks = set l.head.desks d (f (get_or l.head.desks d (numbers_of idle)));
-  };
-  table = l.table;
-  entries = l.entries;
-}
+on_desk d f l = record l { head = record l.head { desks = set l.head.desks d (f (get_or l.head.desks d (numbers_of idle))) } }
 
 abbrev pub with_desk : ℕ → Desk Spot → Line → Line
 with_desk d x = on_desk d (λ _. numbers_of x)
 
 abbrev pub with_stage : ℕ → ℕ → Line → Line
-with_stage d n = on_desk d (λ x. record { stage = n; place = x.place; turn = x.turn })
+with_stage d n = on_desk d (λ x. record x { stage = n })
 
 abbrev pub with_turn : ℕ → ℕ → Line → Line
-with_turn d n = on_desk d (λ x. record { stage = x.stage; place = x.place; turn = n })
+with_turn d n = on_desk d (λ x. record x { turn = n })
 
 abbrev pub with_place : ℕ → ℕ → Line → Line
-with_place d n = on_desk d (λ x. record { stage = x.stage; place = n; turn = x.turn })
+with_place d n = on_desk d (λ x. record x { place = n })
 
 abbrev pub on_block : ℕ → (Block → Block) → Line → Line
-on_block i f l = record { head = l.head; table = set l.table i (f (get_or l.table i unused)); entries = l.entries }
+on_block i f l = record l { table = set l.table i (f (get_or l.table i unused)) }
 
 abbrev pub with_round : ℕ → ℕ → Line → Line
 with_round i n = on_block i (λ c. block n c.written c.claimed c.finished)
@@ -157,7 +145,7 @@ abbrev pub with_finished : ℕ → ℕ → Line → Line
 with_finished i n = on_block i (λ c. block c.round c.written c.claimed n)
 
 abbrev pub with_entry : ℕ → ℕ → Line → Line
-with_entry i a l = record { head = l.head; table = l.table; entries = set l.entries i a }
+with_entry i a l = record l { entries = set l.entries i a }
 
 -- the same head with so many records, all unused, and so many entries
 abbrev pub lengths : ℕ → ℕ → Line → Line

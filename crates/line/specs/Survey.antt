@@ -1,14 +1,14 @@
 -- The survey, as it is computed. Proved to be what specs/Demands.antt says of it: `SurveyTells`, `SurveyGuarded`.
-use Rattle.std.specs.Prelude.{Bool, true, false, List, [], ◌∷◌, ℕ, zero, suc, ◌+◌, ◌*◌, if◌then◌else◌}
+use Rattle.std.specs.Prelude.{Bool, true, false, List, [], ◌∷◌, ℕ, zero, suc, ◌+◌, ◌*◌, if◌then◌else◌, Result, Ok, Err}
 use Rattle.words.specs.declared.Answer.{Answer}
 use Rattle.words.specs.declared.Answer.TheVariants.{Put, Got, Took, Whole, Seen, Claimed, Done, Refused}
+use Rattle.words.specs.declared.Refusal.{Refusal}
+use Rattle.words.specs.declared.Refusal.TheVariants.{Unfit, Damaged}
 use Rattle.book.specs.Total.{total}
 use Rattle.book.specs.declared.DeskStep.TheVariants.{Look as look}
 use Rattle.book.specs.Steps.{idle}
 use Rattle.line.specs.Line.{Line, desk_step, size_in}
-use Rattle.line.specs.Check.{Checked, sound, unfit, broken, check}
-pub use Rattle.line.specs.declared.Surveyed.{Surveyed}
-pub use Rattle.line.specs.declared.Surveyed.TheVariants.{Survey as surveyed, Unfit as survey·unfit, Damaged as survey·damaged}
+use Rattle.line.specs.Check.{Checked, refusal_of, check}
 pub use Rattle.line.specs.declared.Findings.{Findings}
 
 abbrev pub is_seen : Answer → Bool
@@ -40,15 +40,32 @@ lowest_from i [] = 64
 lowest_from i (b ∷ bs) = let later = lowest_from (suc i) bs in if b then i else later
 
 unfoldable pub views : List Bool → Findings
-views bs = record { answer = surveyed; mask = mask_of bs; count = total bit bs; lowest = lowest_from 0 bs }
+views bs = record { mask = mask_of bs; count = total bit bs; lowest = lowest_from 0 bs }
 
-abbrev pub none : Surveyed → Findings
-none a = record { answer = a; mask = 0; count = 0; lowest = 64 }
+-- what the survey answers: what it finds, or a refusal
+abbrev pub Surveyed : Type 0
+Surveyed = Result Findings Refusal
 
-unfoldable pub surveys : Line → Checked → Findings
-surveys l sound = views (seen_from l 0 l.head.nb)
-surveys l unfit = none survey·unfit
-surveys l (broken place rule) = none survey·damaged
+abbrev pub surveyed : Findings → Surveyed
+surveyed v = Ok v
 
-unfoldable pub survey : Line → Findings
+abbrev pub survey·unfit : Surveyed
+survey·unfit = Err Unfit
+
+abbrev pub survey·damaged : Surveyed
+survey·damaged = Err Damaged
+
+-- what a refused survey says beside its refusal: no block is seen
+abbrev pub none : Findings
+none = record { mask = 0; count = 0; lowest = 64 }
+
+abbrev pub found : Surveyed → Findings
+found (Ok v) = v
+found (Err w) = none
+
+unfoldable pub surveys : Line → Checked → Surveyed
+surveys l (Ok u) = surveyed (views (seen_from l 0 l.head.nb))
+surveys l (Err f) = Err (refusal_of f)
+
+unfoldable pub survey : Line → Surveyed
 survey l = surveys l (check l)

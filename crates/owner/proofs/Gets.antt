@@ -10,7 +10,7 @@ use lib.ListN.{get_or}
 use Rattle.words.specs.declared.Refusal.TheVariants.{Empty}
 use Rattle.words.specs.declared.Answer.TheVariants.{Got, Refused}
 use Rattle.book.specs.Choice.{◌<ᵇ◌, ◌≡ᵇ◌}
-use Rattle.book.specs.Sizes.{Size, sized}
+use Rattle.book.specs.Sizes.{Size}
 use Rattle.book.proofs.Choice.{and_second, lt→true, ge→false}
 use Rattle.line.specs.declared.Block.{Block}
 use Rattle.line.specs.declared.Head.{Head}
@@ -28,27 +28,23 @@ at k place = record { turn = k; place = place }
 
 -- ---- one move, or none
 
--- of the numbers of a line a move reads NE
-abbrev pub moves : ℕ → ℕ → Block → Spot → Bool
-moves ne p c s = moves_on (sized 0 ne 0) p c s
-
-moves_below : (ne p : ℕ) (c : Block) (s : Spot) → moves ne p c s ≡ true → s.turn < p
+moves_below : (z : Size) (p : ℕ) (c : Block) (s : Spot) → moves_on z p c s ≡ true → s.turn < p
 unfolding moves_on
-moves_below ne p c s e =
+moves_below z p c s e =
     let w = s.place <ᵇ c.written in
-    let b = s.place ≡ᵇ ne in
-    let t : T (moves ne p c s) = rw e tt in
+    let b = s.place ≡ᵇ z.ne in
+    let t : T (moves_on z p c s) = rw e tt in
     ltb→lt s.turn p (and_second b (s.turn <ᵇ p) (and_second (not w) (b && s.turn <ᵇ p) t))
 
 module _ (z : Size) (tb : List Block) (p : ℕ) (s : Spot) where
   abbrev here : Block
   here = record_of z tb s.turn
 
-  reach_on : (n : ℕ) → moves z.ne p here s ≡ true → reach z (suc n) tb p s ≡ reach z n tb p (taken_over z tb s)
+  reach_on : (n : ℕ) → moves_on z p here s ≡ true → reach z (suc n) tb p s ≡ reach z n tb p (taken_over z tb s)
   unfolding reach moves_on
   reach_on n e = rw e
 
-  reach_stays : (n : ℕ) → moves z.ne p here s ≡ false → reach z n tb p s ≡ s
+  reach_stays : (n : ℕ) → moves_on z p here s ≡ false → reach z n tb p s ≡ s
   unfolding reach moves_on
   reach_stays zero e = refl
   reach_stays (suc n) e = rw e
@@ -65,71 +61,80 @@ module _ (h : Head) (t : List Block) (es : List ℕ) where
   abbrev l : Line
   l = line_of h t h.nb es
 
-  -- a get has come to place `place` of turn k, which stands in block i with record b
-  pub record Come (k place i : ℕ) (b : Block) : Type 0 where
+  -- a get has come to the reading place of turn K of head g, which stands in block i with record b
+  pub record Come (g : Head) (i : ℕ) (b : Block) : Type 0 where
     pub ready : Ready h t es
-    pub from : h.k ≤ k
-    pub to : k ≤ h.p
-    pub place_fits : place ≤ h.ne
-    pub block : i ≡ k % h.nb
-    pub here : b ≡ record_of z l.table k
-    pub more : get_step z l ≡ read_at z l (reach z (h.nb - 1 - (k - h.k)) l.table h.p (at k place))
+    pub head : g ≡ get_at h (at g.k g.reading)
+    pub from : h.k ≤ g.k
+    pub to : g.k ≤ h.p
+    pub block : i ≡ g.k % h.nb
+    pub here : b ≡ record_of z l.table g.k
+    pub more : get_step z l ≡ read_at z l (reach z (h.nb - 1 - (g.k - h.k)) l.table h.p (at g.k g.reading))
 
   -- the record of turn k, which is one of those from K to P
   cell_at : Ready h t es → (k : ℕ) → h.k ≤ k → k ≤ h.p → Cell l k
   cell_at r k from to = cell l (blocks h t es r).0 r.sound k (record { low = to; high = omega (arith, r.sound.one.near) })
 
-  pub begins : Ready h t es → (i : ℕ) → i ≡ h.k % h.nb → Come h.k h.reading i (get_or t i unused)
+  pub begins : Ready h t es → (i : ℕ) → i ≡ h.k % h.nb → Come h i (get_or t i unused)
   unfolding get_step
   begins r i e = record {
     ready = r;
+    head = refl;
     from = omega arith;
     to = r.sound.one.below;
-    place_fits = omega (arith, r.sound.two.to, (cell_at r h.k (omega arith) r.sound.one.below).fits);
     block = e;
     here = record_at_lem h t es r h.k i e;
     more = (let n : h.nb - 1 - (h.k - h.k) ≡ h.nb - 1 = omega arith in rw n);
   }
 
-  module _ {k place i : ℕ} {b : Block} (s : Come k place i b) where
+  module _ {g : Head} {i : ℕ} {b : Block} (s : Come g i b) where
     few : h.nb ≤ 64
     few = (blocks h t es s.ready).1
 
-    same_moves : moves h.ne h.p b (at k place) ≡ moves h.ne h.p (record_of z l.table k) (at k place)
-    same_moves = ap (λ (d : Block). moves h.ne h.p d (at k place)) s.here
+    -- does a get move on, by the head and the record that the code reads
+    abbrev pub moves : Bool
+    moves = moves_on (size_of g) g.p b (at g.k g.reading)
 
-    module _ (e : moves h.ne h.p b (at k place) ≡ true) where
-      pub onward : k < h.p
-      onward = moves_below h.ne h.p b (at k place) e
+    same_moves : moves ≡ moves_on z h.p (record_of z l.table g.k) (at g.k g.reading)
+    same_moves =
+        ap (λ (x : Head). moves_on (size_of x) x.p b (at g.k g.reading)) s.head ∙ ap (λ (c : Block). moves_on z h.p c (at g.k g.reading)) s.here
 
-      pub moved : (j : ℕ) → j ≡ (i + 1) % h.nb → Come (k + 1) (get_or t j unused).claimed j (get_or t j unused)
+    module _ (e : moves ≡ true) where
+      on : moves_on z h.p (record_of z l.table g.k) (at g.k g.reading) ≡ true
+      on = sym same_moves ∙ e
+
+      pub onward : g.k < h.p
+      onward = moves_below z h.p (record_of z l.table g.k) (at g.k g.reading) on
+
+      pub moved : (j : ℕ) → j ≡ (i + 1) % h.nb → (let c = get_or t j unused in Come (get_at g (at (g.k + 1) c.claimed)) j c)
       moved j f =
           let r = s.ready in
-          let at_j = next_block h.nb k i j s.block f in
-          let c : get_or t j unused ≡ record_of z l.table (k + 1) = record_at_lem h t es r (k + 1) j at_j in
+          let at_j = next_block h.nb g.k i j s.block f in
+          let c : get_or t j unused ≡ record_of z l.table (g.k + 1) = record_at_lem h t es r (g.k + 1) j at_j in
           record {
             ready = r;
+            head = ap (λ (x : Head). get_at x (at (g.k + 1) (get_or t j unused).claimed)) s.head;
             from = omega (arith, s.from);
             to = omega (arith, onward);
-            place_fits = (let q = cell_at r (k + 1) (omega (arith, s.from)) (omega (arith, onward)) in omega (arith, q.claims, q.fits, ap (λ (d : Block). d.claimed) c));
             block = at_j;
             here = c;
-            more = rw (c, add-one) (s.more ∙ ap (read_at z l) (rw (one_less h.nb h.p h.k k r.sound.one.near s.from onward) (reach_on z l.table h.p (at k place) _ (sym same_moves ∙ e))));
+            more = rw (c, add-one) (s.more ∙ ap (read_at z l) (rw (one_less h.nb h.p h.k g.k r.sound.one.near s.from onward) (reach_on z l.table h.p (at g.k g.reading) _ on)));
           }
 
-    module _ (e : moves h.ne h.p b (at k place) ≡ false) where
-      stopped : get_step z l ≡ read_at z l (at k place)
-      stopped = s.more ∙ ap (read_at z l) (reach_stays z l.table h.p (at k place) (h.nb - 1 - (k - h.k)) (sym same_moves ∙ e))
+    module _ (e : moves ≡ false) where
+      stopped : get_step z l ≡ read_at z l (at g.k g.reading)
+      stopped = s.more ∙ ap (read_at z l) (reach_stays z l.table h.p (at g.k g.reading) (h.nb - 1 - (g.k - h.k)) (sym same_moves ∙ e))
 
-      pub empty : b.written ≤ place → given (Refused Empty 0) (get_at h (at k place)) t es ≡ back_of t h.nb (get_step z l)
+      pub empty : g.reading <ᵇ b.written ≡ false → given (Refused Empty 0) g t es ≡ back_of t h.nb (get_step z l)
       unfolding read_at
-      empty w = rw (stopped, ← s.here, ge→false place b.written w) (refused (get_at h (at k place)) t h.nb es Empty)
+      empty w = rw s.head (rw (stopped, ← s.here, w) (refused (get_at h (at g.k g.reading)) t h.nb es Empty))
 
-      pub got : (label : ℕ) → place < b.written → label ≡ get_or es (i * h.ne + place) 0
-          → given (Got label) (get_at h (at k (place + 1))) t es ≡ back_of t h.nb (get_step z l)
+      pub got : (label : ℕ) → g.reading <ᵇ b.written ≡ true → label ≡ get_or es (i * h.ne + g.reading) 0
+          → given (Got label) (get_at g (at g.k (g.reading + 1))) t es ≡ back_of t h.nb (get_step z l)
       unfolding read_at label_at entry_of
       got label w f =
-          rw (stopped, ← s.here, lt→true place b.written w, add-one, f, s.block) (back_lent h.nb few t t (get_at h (at k (suc place))) es (Got (label_at z es (at k place))) refl)
+          ap (λ (x : Head). given (Got label) (get_at x (at g.k (g.reading + 1))) t es) s.head
+          ∙ rw (stopped, ← s.here, w, add-one, f, s.block) (back_lent h.nb few t t (get_at h (at g.k (suc g.reading))) es (Got (label_at z es (at g.k g.reading))) refl)
 
-    pub place_below : place < b.written → place < h.ne
-    place_below w = omega (arith, (cell_at s.ready k s.from s.to).fits, ap (λ (d : Block). d.written) s.here)
+    pub place_below : g.reading < b.written → g.reading < h.ne
+    place_below w = omega (arith, (cell_at s.ready g.k s.from s.to).fits, ap (λ (c : Block). c.written) s.here)

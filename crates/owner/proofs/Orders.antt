@@ -1,5 +1,5 @@
 -- An order on a lent line: a run of puts that stops at the first refusal.
-use mathlib.Core.Path.{◌≡◌, refl, ◌∙◌}
+use mathlib.Core.Path.{◌≡◌, refl, ap, ◌∙◌}
 use mathlib.Core.Bool.{true, false}
 use mathlib.Core.List.{List}
 use Prim.Native.Nat.{ℕ, suc, ◌+◌, ◌-◌, ◌%◌, ◌≤◌, ◌<◌}
@@ -9,14 +9,15 @@ use lib.Dec.{T, leb, leb→le}
 use lib.ListN.{set, drop}
 use Rattle.words.specs.declared.Refusal.{Refusal}
 use Rattle.words.specs.declared.Refusal.TheVariants.{Range}
+use Rattle.words.specs.declared.Answer.{Answer}
 use Rattle.words.specs.declared.Answer.TheVariants.{Whole, Refused}
 use Rattle.book.specs.Sizes.{Size, is_label, is_order}
-use Rattle.book.specs.declared.Verdict.TheVariants.{Takes as takes, Refuses as refuses}
+use Rattle.book.specs.Verdicts.{takes, refuses}
 use Rattle.book.proofs.Choice.{and_first, and_second}
 use Rattle.line.specs.declared.Block.{Block}
 use Rattle.line.specs.declared.Head.{Head}
 use Rattle.line.specs.declared.Room.{Room}
-use Rattle.line.specs.Line.{Outcome, size_of, put_at, put_many, order_step}
+use Rattle.line.specs.Line.{Outcome, says, size_of, put_at, put_many, order_step}
 use Rattle.byvalue.specs.Lent.{line_of}
 use Rattle.byvalue.specs.GivenBack.{given, back_of}
 use Rattle.byvalue.specs.Ready.{Ready}
@@ -42,63 +43,68 @@ module _ (h : Head) (t₀ : List Block) (es₀ : List ℕ) (a b : ℕ) where
   unfolding order_step
   order_range e = rw e (refused h t₀ h.nb es₀ Range)
 
-  -- the labels below `label` are placed; the line is then that of P, t and es, and turn P stands in block i
-  pub record Placed (p : ℕ) (t : List Block) (es : List ℕ) (i label : ℕ) : Type 0 where
-    pub ready : Ready (put_at h p) t es
-    pub here : i ≡ p % h.nb
-    pub last : b ≤ 999999
+  -- the labels below `label` are placed; the line is then that of g, t and es, and turn P stands in block i
+  pub record Placed (g : Head) (t : List Block) (es : List ℕ) (i label : ℕ) : Type 0 where
+    pub reads : Reads g t es i
+    pub same : size_of g ≡ z
+    pub range : (a ≤ b) × (b ≤ 999999)
     pub from : a ≤ label
     pub to : label ≤ b + 1
-    pub others : drop h.nb t ≡ drop h.nb t₀
-    pub more : out ≡ put_many z (suc b - label) (line_of (put_at h p) t h.nb es) label (label - a)
+    pub others : drop g.nb t ≡ drop g.nb t₀
+    pub more : out ≡ put_many (size_of g) (suc b - label) (line_of g t g.nb es) label (label - a)
 
   begins : is_order a b ≡ true → out ≡ put_many z (suc b - a) (line_of h t₀ h.nb es₀) a (a - a)
   unfolding order_step
   begins e = let none : a - a ≡ 0 = omega arith in rw (e, none)
 
-  pub none_placed : Ready h t₀ es₀ → is_order a b ≡ true → (i : ℕ) → i ≡ h.p % h.nb → Placed h.p t₀ es₀ i a
+  pub none_placed : Ready h t₀ es₀ → is_order a b ≡ true → (i : ℕ) → i ≡ h.p % h.nb → Placed h t₀ es₀ i a
   none_placed r e i at =
-      let o = in_range a b e in
       record {
-        ready = r;
-        here = at;
-        last = o.1;
+        reads = record { ready = r; here = at };
+        same = refl;
+        range = in_range a b e;
         from = omega arith;
-        to = omega arith;
+        to = let o = in_range a b e in omega arith;
         others = refl;
         more = begins e;
       }
 
-  module _ {p : ℕ} {t : List Block} {es : List ℕ} {i label : ℕ} (s : Placed p t es i label) where
-    few : h.nb ≤ 64
-    few = (blocks (put_at h p) t es s.ready).1
+  module _ {g : Head} {t : List Block} {es : List ℕ} {i label : ℕ} (s : Placed g t es i label) where
+    same_nb : g.nb ≡ h.nb
+    same_nb = ap (λ (y : Size). y.nb) s.same
 
-    pub whole : b < label → given (Whole (label - a)) (put_at h p) t es ≡ back_of t₀ h.nb out
+    pub same_ne : g.ne ≡ h.ne
+    same_ne = ap (λ (y : Size). y.ne) s.same
+
+    -- what is given back with answer r, where that is the order's outcome
+    back : (r : Answer) → out ≡ says (line_of g t g.nb es) r → given r g t es ≡ back_of t₀ h.nb out
+    back r e = rw (e, ← same_nb) (back_lent g.nb (blocks g t es s.reads.ready).1 t₀ t g es r s.others)
+
+    pub whole : b < label → given (Whole (b - a + 1)) g t es ≡ back_of t₀ h.nb out
     unfolding put_many
     whole k =
-        let e : suc b - label ≡ 0 = omega arith in
-        rw (s.more, e) (back_lent h.nb few t₀ t (put_at h p) es (Whole (label - a)) s.others)
+        let none : suc b - label ≡ 0 = omega arith in
+        let count : b - a + 1 ≡ label - a = let r = s.range in let u = s.to in omega arith in
+        back (Whole (b - a + 1)) (rw (s.more, none, count))
 
-    module _ (k : label ≤ b) {j : ℕ} (x : Reads (put_at h p) t es i j) where
+    module _ (k : label ≤ b) where
       up : suc b - label ≡ suc (b - label)
       up = omega arith
 
-      pub stopped : (w : Refusal) → verdict x label ≡ refuses w
-          → given (Refused w (label - a)) (put_at h p) t es ≡ back_of t₀ h.nb out
-      stopped w e =
-          rw (s.more, up, many_refused x label w e (b - label) (label - a)) (back_lent h.nb few t₀ t (put_at h p) es (Refused w (label - a)) s.others)
+      pub stopped : (w : Refusal) → verdict s.reads label ≡ refuses w → given (Refused w (label - a)) g t es ≡ back_of t₀ h.nb out
+      stopped w e = back (Refused w (label - a)) (rw (s.more, up) (many_refused s.reads label w e (b - label) (label - a)))
 
-      pub one_more : verdict x label ≡ takes → {g : Room} {fs : List ℕ} → Writes (put_at h p) t es i label g fs
-          → Placed g.turn (set t g.block g.after) fs g.block (label + 1)
+      pub one_more : verdict s.reads label ≡ takes → {m : Room} {fs : List ℕ} → Writes g t es i label m fs
+          → Placed (put_at g m.turn) (set t m.block m.after) fs m.block (label + 1)
       one_more e y =
           let left : suc b - (label + 1) ≡ b - label = omega arith in
           let count : label + 1 - a ≡ suc (label - a) = let f = s.from in omega arith in
           record {
-            ready = ready_after x label e y;
-            here = room_block x _ y.room;
-            last = s.last;
+            reads = record { ready = ready_after s.reads label e y; here = room_block s.reads _ y.room };
+            same = s.same;
+            range = s.range;
             from = let f = s.from in omega arith;
             to = omega arith;
-            others = kept x label e y ∙ s.others;
-            more = rw (s.more, up, many_taken x label e y (b - label) (label - a), left, count, add-one);
+            others = kept s.reads label e y ∙ s.others;
+            more = rw (s.more, up, many_taken s.reads label e y (b - label) (label - a), left, count, add-one);
           }

@@ -1,15 +1,12 @@
 -- The cases of specs/Cases.antt. What is allowed is computed; a wrong outcome differs from it in a number, so it is not
 -- allowed.
-use mathlib.Core.Path.{◌≡◌, refl, sym, ap, subst, ◌∙◌}
-use mathlib.Core.Bool.{not}
-use Prim.Native.Nat.{ℕ}
-use lib.Dec.{T, T_not, eqb, eqb_refl}
-use lib.ListN.{get_or}
+use Rattle.std.proofs.Common.{◌≡◌, ℕ, not, T, eqb, get_or, refl, sym, ap, subst, ◌∙◌, T_not}
+use Rattle.std.proofs.Math.Dec.{eqb_refl}
 use Rattle.words.specs.declared.Answer.TheVariants.{Put, Refused}
 use Rattle.words.specs.declared.Refusal.TheVariants.{Full}
-use Rattle.line.specs.declared.Checked.TheVariants.{Broken}
-use Rattle.line.specs.declared.Opening.TheVariants.{Open}
 use Rattle.line.specs.Line.{Line, unused}
+use Rattle.line.specs.Check.{broken}
+use Rattle.line.specs.Calls.{open·line}
 use Rattle.line.specs.Numbers.{CheckSaid, SurveySaid}
 use Rattle.line.specs.Samples.{fresh, started}
 use Rattle.line.proofs.Cases.{calls}
@@ -29,7 +26,7 @@ entry l = get_or l.entries 0 0
 
 -- ---- the cases
 
-allowed : Steps fresh put7 (Put 7) placed × Orders fresh 1 5 (Refused Full 4) filled × Opens started three Open anew × Checks torn (Broken 1 4) × Surveys started seen
+allowed : Steps fresh put7 (Put 7) placed × Orders fresh 1 5 (Refused Full 4) filled × Opens started three open·line anew × Checks torn (broken 1 4) × Surveys started seen
 unfolding calls
 allowed = (refl, refl, refl, refl, refl)
 

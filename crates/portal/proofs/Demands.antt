@@ -1,12 +1,7 @@
 -- Each demand holds of whatever outcomes the promises allow. A promise is one equation with a definition of the line,
 -- so a theorem about the definition is one about the outcome; and a run of calls from opening is a run of the line from
 -- `opened`.
-use mathlib.Core.Path.{◌≡◌, refl, sym, ap, subst, ◌∙◌}
-use mathlib.Core.Logic.{◌↔◌}
-use mathlib.Core.List.{List, [], ◌∷◌, map}
-use Prim.Native.Nat.{ℕ}
-use lib.Dec.{T, T_not}
-use lib.ListN.{length, replicate}
+use Rattle.std.proofs.Common.{◌≡◌, ◌↔◌, ℕ, T, List, [], ◌∷◌, map, length, replicate, Ok, Err, refl, sym, ap, subst, ◌∙◌, T_not}
 use Rattle.words.specs.declared.Answer.{Answer}
 use Rattle.words.specs.declared.Answer.TheVariants.{Seen}
 use Rattle.book.specs.Sizes.{Size, fits}
@@ -19,15 +14,10 @@ use Rattle.book.proofs.Handed as H
 use Rattle.book.proofs.Bound.{bounded}
 use Rattle.line.specs.declared.Block.{Block}
 use Rattle.line.specs.declared.Head.{Head}
-use Rattle.line.specs.declared.Checked.{Checked}
-use Rattle.line.specs.declared.Opening.{Opening}
-use Rattle.line.specs.declared.Opening.TheVariants.{Open, Unfit}
-use Rattle.line.specs.declared.Findings.{Findings}
 use Rattle.line.specs.Line.{Line, Outcome, says, opened}
-use Rattle.line.specs.Check.{fit, check}
-use Rattle.line.specs.Calls as L
-use Rattle.line.specs.Calls.{opens, step, orders, answers, after}
-use Rattle.line.specs.Survey.{survey}
+use Rattle.line.specs.Check.{Checked, fit, check}
+use Rattle.line.specs.Calls.{Opening, Opened, open·line, opens, step, orders, answers, after}
+use Rattle.line.specs.Survey.{Surveyed, found, survey}
 use Rattle.line.specs.Demands as D
 use Rattle.line.proofs.Check as K
 use Rattle.line.proofs.Guards as G
@@ -66,7 +56,7 @@ order_is l m first last r e =
 check_is : (l : Line) (r : Checked) → Checks l r → r ≡ check l
 check_is l r e = checks_unique l r _ e refl
 
-survey_is : (l : Line) (v : Findings) → Surveys l v → v ≡ survey l
+survey_is : (l : Line) (v : Surveyed) → Surveys l v → v ≡ survey l
 survey_is l v e = surveys_unique l v _ e refl
 
 -- ---- demand 1
@@ -116,17 +106,27 @@ unfolding SurveyUnread
 survey_unread h t = unread Surveys surveys_unique (λ n. survey (line_of h (loaded t) (length t) (replicate n 0))) h t (O.surveyed h t)
 
 abbrev IsOpen : Opening → Type 0
-IsOpen Open = Unit {0}
-IsOpen Unfit = ⊥
+IsOpen (Ok u) = Unit {0}
+IsOpen (Err w) = ⊥
 
 pub opening_told : OpeningTold
 unfolding OpeningTold opens
 opening_told lent l z r e =
     let b = fit z lent.table lent.entries in
-    subst (λ (o : L.Opened). OpeningSays lent z o.answer o.line) (sym (opening_is lent l z r e))
-    (by_test (λ (o : L.Opened). OpeningSays lent z o.answer o.line) b
-    (λ t. record { answer = (λ _. t, λ _. refl); fresh = λ _. refl; left = λ q. absurd (subst IsOpen q tt) })
-    (λ t. record { answer = (λ q. absurd (subst IsOpen (sym q) tt), λ u. absurd (T_not b t u)); fresh = λ q. absurd (subst IsOpen (sym q) tt); left = λ _. refl }))
+    subst (λ (o : Opened). OpeningSays lent z o.answer o.line) (sym (opening_is lent l z r e))
+    (by_test (λ (o : Opened). OpeningSays lent z o.answer o.line) b
+    (λ t. record {
+      answer = (λ _. t, λ _. refl);
+      unfit = (λ q. absurd (subst IsOpen q tt), λ n. absurd (n t));
+      fresh = λ _. refl;
+      left = λ q. absurd (subst IsOpen q tt);
+    })
+    (λ t. record {
+      answer = (λ q. absurd (subst IsOpen (sym q) tt), λ u. absurd (T_not b t u));
+      unfit = (λ _. T_not b t, λ _. refl);
+      fresh = λ q. absurd (subst IsOpen (sym q) tt);
+      left = λ _. refl;
+    }))
 
 -- ---- a run of calls
 
@@ -148,9 +148,9 @@ runs_line l m (c ∷ cs) (r ∷ rs) e =
     (ap (λ (xs : List Answer). r ∷ xs) rest.0, rest.1)
 
 module _ (z : Size) (cs : List Call) (rs : List Answer) (m : Line) (run : Run z cs rs m) where
-  began : OpeningSays run.lent z Open run.line
+  began : OpeningSays run.lent z open·line run.line
   unfolding OpeningTold
-  began = opening_told run.lent run.line z Open run.opens
+  began = opening_told run.lent run.line z open·line run.opens
 
   size_fits : T (fits z)
   size_fits = (fit_long run.lent z (began.answer.0 refl)).0
@@ -199,7 +199,7 @@ module _ (l : Line) where
         answer = g.2;
         names = λ f s. let t = S.survey_tells l f s in record {
           bits = t.bits;
-          looks = λ d b s r m i k q e. subst (λ (o : Outcome). (D.bit_at (survey l).mask b ≡ 1) ↔ ((place : ℕ) × (o.answer ≡ Seen place))) (sym (step_is l m s r e)) (t.looks d b s i k q);
+          looks = λ d b s r m i k q e. subst (λ (o : Outcome). (D.bit_at (found (survey l)).mask b ≡ 1) ↔ ((place : ℕ) × (o.answer ≡ Seen place))) (sym (step_is l m s r e)) (t.looks d b s i k q);
           count = t.count;
           lowest = t.lowest;
         };

@@ -1,10 +1,6 @@
 -- How many records and how long: no call changes the number of lent records, and more than 64 fit no line.
-use mathlib.Core.Path.{◌≡◌, refl, sym, ◌∙◌}
-use mathlib.Core.Bool.{false, ◌&&◌}
-use Prim.Native.Nat.{ℕ, zero, suc, ◌-◌, ◌*◌, ◌<◌}
-use native.Mathlib.Omega.{arith}
-use lib.Dec.{T, eqb, eqb→eq}
-use lib.ListN.{length, length-set, length-replicate}
+use Rattle.std.proofs.Common.{◌≡◌, ℕ, zero, suc, ◌-◌, ◌*◌, ◌<◌, false, ◌&&◌, T, eqb, length, refl, sym, ◌∙◌, arith, eqb→eq, length-set}
+use Rattle.std.proofs.lemmas.List.{length-replicate}
 use Rattle.words.specs.declared.Refusal.TheVariants.{Unfit as Refusal·unfit}
 use Rattle.book.specs.Choice.{◌<ᵇ◌}
 use Rattle.book.specs.Sizes.{Size, fits, is_order}
@@ -16,12 +12,9 @@ use Rattle.book.specs.Verdicts.{admitted}
 use Rattle.book.proofs.Choice.{by_test, by_verdict, cases, not→false, and_first, and_second}
 use Rattle.line.specs.Line.{Line, Outcome, Spot, size_of, nowhere, refuse, unused, desk_at, record_of, may_put, with_label, put_step, put_many, order_step}
 use Rattle.line.specs.Line.{read_at, get_step, desk_does, desk_step, does, opened}
-use Rattle.line.specs.declared.Checked.TheVariants.{Unfit}
-use Rattle.line.specs.declared.Opening.TheVariants.{Unfit as NoLine}
-use Rattle.line.specs.declared.Surveyed.TheVariants.{Unfit as NoSurvey}
-use Rattle.line.specs.Check.{fit, check}
-use Rattle.line.specs.Calls.{Opened, opens, passes, step, orders}
-use Rattle.line.specs.Survey.{survey, surveys, none}
+use Rattle.line.specs.Check.{unfit, fit, check}
+use Rattle.line.specs.Calls.{Opened, open·unfit, opens, passes, step, orders}
+use Rattle.line.specs.Survey.{survey·unfit, survey, surveys}
 use Rattle.line.proofs.Cells.{valid}
 
 -- ---- every step
@@ -97,11 +90,11 @@ module _ (l : Line) where
         let f = fit z l.table l.entries in
         cases f (λ t. absurd (let e = fit_long z t in let v = valid z e.0 in omega (arith, e.1, v.nb_most))) (not→false f)
 
-    pub check_many : check l ≡ Unfit
+    pub check_many : check l ≡ unfit
     unfolding check
     check_many = rw (fits_none (size_of l.head)) refl
 
-    pub survey_many : survey l ≡ none NoSurvey
+    pub survey_many : survey l ≡ survey·unfit
     unfolding survey surveys
     survey_many = rw check_many refl
 
@@ -113,6 +106,6 @@ module _ (l : Line) where
     unfolding orders
     orders_many a e = rw check_many refl
 
-    pub opens_many : (z : Size) → opens l z ≡ record { line = l; answer = NoLine }
+    pub opens_many : (z : Size) → opens l z ≡ record { line = l; answer = open·unfit }
     unfolding opens
     opens_many z = rw (fits_none z) refl

@@ -2,13 +2,11 @@
 -- Up to 64 records are the engine's line as they are, and the line that it leaves is stored over them; more fit no
 -- line, so both are UNFIT and leave what was lent. So what the engine promises of its outcome the portal promises of
 -- its own.
-use mathlib.Core.Path.{◌≡◌, refl, sym, ap, ◌∙◌}
-use mathlib.Core.List.{List, [], ◌∷◌, ◌++◌}
-use Prim.Native.Nat.{ℕ, suc, ◌≤◌, ◌<◌}
-use native.Mathlib.Omega.{arith}
-use lib.Dec.{leb, leb→le, nleb→lt}
-use lib.ListN.{length, set, drop, length-set, length-replicate, length-append}
-use lib.Seq.{take_at}
+use Rattle.std.proofs.Common.{◌≡◌, ℕ, suc, ◌≤◌, ◌<◌, leb, List, [], ◌∷◌, ◌++◌, length, set, drop, refl, sym, ap, ◌∙◌, arith, leb→le, length-set, length-append, take_at}
+use Rattle.std.proofs.Math.Dec.{nleb→lt}
+use Rattle.std.proofs.lemmas.List.{length-replicate}
+use Rattle.std.specs.Fn.{Once}
+use Rattle.words.specs.declared.Answer.{Answer}
 use Rattle.words.specs.declared.Answer.TheVariants.{Refused}
 use Rattle.words.specs.declared.Refusal.TheVariants.{Unfit}
 use Rattle.book.specs.Sizes.{Size}
@@ -16,29 +14,23 @@ use Rattle.book.specs.Steps.{Step}
 use Rattle.book.proofs.Choice.{cases, le→true}
 use Rattle.line.specs.declared.Block.{Block}
 use Rattle.line.specs.declared.Head.{Head}
-use Rattle.line.specs.declared.Checked.{Checked}
-use Rattle.line.specs.declared.Checked.TheVariants.{Unfit as Misfit}
-use Rattle.line.specs.declared.Opening.TheVariants.{Unfit as NoLine}
-use Rattle.line.specs.declared.Surveyed.TheVariants.{Unfit as NoSurvey}
-use Rattle.line.specs.declared.Findings.{Findings}
 use Rattle.line.specs.Line.{Line, Outcome, refuse, unused}
-use Rattle.line.specs.Check.{check}
-use Rattle.line.specs.Calls as L
-use Rattle.line.specs.Calls.{opens, step, orders}
+use Rattle.line.specs.Check.{Checked, unfit, check}
+use Rattle.line.specs.Calls.{Opening, Opened, open·unfit, opens, step, orders}
 use Rattle.line.specs.Numbers.{opening_said, check_said, survey_said}
-use Rattle.line.specs.Survey.{none, survey}
+use Rattle.line.specs.Survey.{Surveyed, survey·unfit, survey}
 use Rattle.table.specs.Laid.{laid, loaded, stored}
 use Rattle.table.proofs.Laws.{stored_loaded, stored_take}
 use Rattle.byvalue.specs.declared.Outcome.{Outcome as OutcomeByValue}
-use Rattle.byvalue.specs.declared.OpeningOutcome.{OpeningOutcome}
 use Rattle.byvalue.specs.Lent.{lent_table, line_of}
 use Rattle.rules.specs.Promises as C
-use Rattle.byvalue.specs.GivenBack.{put_back, Given, given_back, back_of, begun as give_begun}
+use Rattle.byvalue.specs.GivenBack.{put_back, Given, given_back, back_of}
 use Rattle.engine.specs.Promises as E
 use Rattle.byvalue.proofs.Lent.{lent_length}
 use Rattle.rules.proofs.Entries.{lent_checked}
 use Rattle.byvalue.proofs.GivenBack.{put_lent}
 use Rattle.portal.specs.Promises.{lent, told, Opens, Steps, Orders, Checks, Surveys}
+use Rattle.portal.specs.Lending.{Lent, Back, Lends}
 use Rattle.portal.proofs.Lengths.{step_long, orders_long, opens_long, check_many, survey_many, step_many, orders_many, opens_many}
 use Rattle.portal.proofs.Unread.{lent_surveyed}
 
@@ -107,30 +99,36 @@ module _ (h : Head) (ys : List Block) (es : List ℕ) where
 module _ (h : Head) (ys : List Block) (es : List ℕ) where
   -- a step and an order alike
   went : (call : Line → Outcome) → ((l : Line) → length (call l).line.table ≡ length l.table) → ((l : Line) → 64 < length l.table → call l ≡ refuse l Unfit)
-      → (r : OutcomeByValue) (fs : List ℕ) → given_back r fs ≡ back_of (loaded ys) (length ys) (call (inner h ys es))
+      → (r : OutcomeByValue Answer) (fs : List ℕ) → given_back r fs ≡ back_of (loaded ys) (length ys) (call (inner h ys es))
       → record { line = lent r.head (stored ys r.table) fs; answer = r.answer } ≡ call (lent h ys es)
   went call long many r fs e =
       let o = outcome h ys es (λ l. (call l).answer) (Refused Unfit 0) (λ l m. ap (λ (o : Outcome). o.answer) (many l m))
       (λ l. (call l).line) long (λ l m. ap (λ (o : Outcome). o.line) (many l m)) (given_back r fs) e in
       λ j. record { line = o.0 j; answer = o.1 j }
 
-  pub stepped : (fs : List ℕ) (s : Step) (r : OutcomeByValue) → E.GivesStep h (loaded ys) (length ys) es s r fs
+  pub stepped : (fs : List ℕ) (s : Step) (r : OutcomeByValue Answer) → E.GivesStep h (loaded ys) (length ys) es s r fs
       → Steps (lent h ys es) s r.answer (lent r.head (stored ys r.table) fs)
   stepped fs s r e = ap told (went (λ l. step l s) (λ l. step_long l s) (λ l m. step_many l m s) r fs e)
 
-  pub ordered : (fs : List ℕ) (first last : ℕ) (r : OutcomeByValue) → E.GivesOrder h (loaded ys) (length ys) es first last r fs
+  pub ordered : (fs : List ℕ) (first last : ℕ) (r : OutcomeByValue Answer) → E.GivesOrder h (loaded ys) (length ys) es first last r fs
       → Orders (lent h ys es) first last r.answer (lent r.head (stored ys r.table) fs)
   ordered fs first last r e = ap told (went (λ l. orders l first last) (λ l. orders_long l first last) (λ l m. orders_many l m first last) r fs e)
 
-  pub begun : (fs : List ℕ) (z : Size) (r : OpeningOutcome) → E.GivesOpening h (loaded ys) (length ys) es z r fs
+  pub begun : (fs : List ℕ) (z : Size) (r : OutcomeByValue Opening) → E.GivesOpening h (loaded ys) (length ys) es z r fs
       → Opens (lent h ys es) z r.answer (lent r.head (stored ys r.table) fs)
   begun fs z r e =
-      let o = outcome h ys es (λ l. (opens l z).answer) NoLine (λ l m. ap (λ (o : L.Opened). o.answer) (opens_many l m z))
-      (λ l. (opens l z).line) (λ l. opens_long l z) (λ l m. ap (λ (o : L.Opened). o.line) (opens_many l m z)) (give_begun r fs) e in
+      let o = outcome h ys es (λ l. (opens l z).answer) open·unfit (λ l m. ap (λ (o : Opened). o.answer) (opens_many l m z))
+      (λ l. (opens l z).line) (λ l. opens_long l z) (λ l m. ap (λ (o : Opened). o.line) (opens_many l m z)) (given_back r fs) e in
       λ j. record { line = o.0 j; said = opening_said (o.1 j) }
 
   pub checked : (r : Checked) → C.GivesCheck h (loaded ys) (length ys) (length es) r → Checks (lent h ys es) r
-  checked r e = ap check_said (lent_checked h (loaded ys) (length ys) es r e ∙ same_answer h ys es check Misfit check_many)
+  checked r e = ap check_said (lent_checked h (loaded ys) (length ys) es r e ∙ same_answer h ys es check unfit check_many)
 
-  pub surveyed : (r : Findings) → E.GivesSurvey h (loaded ys) (length ys) (length es) r → Surveys (lent h ys es) r
-  surveyed r e = ap survey_said (lent_surveyed h (loaded ys) (length ys) es r e ∙ same_answer h ys es survey (none NoSurvey) survey_many)
+  pub surveyed : (r : Surveyed) → E.GivesSurvey h (loaded ys) (length ys) (length es) r → Surveys (lent h ys es) r
+  surveyed r e = ap survey_said (lent_surveyed h (loaded ys) (length ys) es r e ∙ same_answer h ys es survey survey·unfit survey_many)
+
+-- ---- from what a call by value gave to what is told
+
+pub told_of : {F A : Type 0} {call : Once F Lent (Back A)} {f : F} {before after : Line} {answer : A} (P : A → Line → Type 0) → (l : Lends call f before answer after)
+    → P l.outcome.answer (lent l.outcome.head (stored before.table l.outcome.table) l.left.now) → P answer after
+told_of P l p = rw (l.told, l.leaves) p

@@ -1,14 +1,13 @@
 -- Any two outcomes that a call's promise allows are equal: the answers, and what is lent afterwards.
-use mathlib.Core.Path.{◌≡◌, sym, ap, ◌∙◌}
-use Prim.Native.Nat.{ℕ}
+use Rattle.std.proofs.Common.{◌≡◌, ℕ, sym, ap, ◌∙◌}
 use Rattle.words.specs.declared.Answer.{Answer}
 use Rattle.words.specs.Words.{said}
 use Rattle.book.specs.Sizes.{Size}
 use Rattle.book.specs.Steps.{Step}
-use Rattle.line.specs.declared.Checked.{Checked}
-use Rattle.line.specs.declared.Opening.{Opening}
-use Rattle.line.specs.declared.Findings.{Findings}
 use Rattle.line.specs.Line.{Line}
+use Rattle.line.specs.Check.{Checked}
+use Rattle.line.specs.Calls.{Opening}
+use Rattle.line.specs.Survey.{Surveyed}
 use Rattle.portal.specs.Promises.{Told, ToldOpening, Opens, Steps, Orders, Checks, Surveys}
 use Rattle.portal.proofs.Apart.{said_apart, opening_apart, check_apart, survey_apart}
 
@@ -29,5 +28,5 @@ module _ (lent : Line) where
   pub checks_unique : (r s : Checked) → Checks lent r → Checks lent s → r ≡ s
   checks_unique r s p q = check_apart r s (p ∙ sym q)
 
-  pub surveys_unique : (r s : Findings) → Surveys lent r → Surveys lent s → r ≡ s
+  pub surveys_unique : (r s : Surveyed) → Surveys lent r → Surveys lent s → r ≡ s
   surveys_unique r s p q = survey_apart r s (p ∙ sym q)

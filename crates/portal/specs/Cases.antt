@@ -7,12 +7,10 @@ use Rattle.words.specs.declared.Answer.TheVariants.{Put, Whole, Refused}
 use Rattle.words.specs.declared.Refusal.TheVariants.{Badstep, Full, Empty}
 use Rattle.book.specs.Sizes.{Size}
 use Rattle.book.specs.Steps.{Step}
-use Rattle.line.specs.declared.Checked.TheVariants.{Sound, Broken}
-use Rattle.line.specs.declared.Opening.TheVariants.{Open, Unfit}
-use Rattle.line.specs.declared.Surveyed.TheVariants.{Survey as surveyed, Unfit as survey·unfit}
-use Rattle.line.specs.declared.Findings.{Findings}
 use Rattle.line.specs.Line.{Line, put_at, unused}
-use Rattle.line.specs.Survey.{none}
+use Rattle.line.specs.Check.{sound, broken}
+use Rattle.line.specs.Calls.{open·line, open·unfit}
+use Rattle.line.specs.Survey.{Surveyed, surveyed, survey·unfit}
 use Rattle.line.specs.Samples.{size, block, sixteen, fresh, started}
 use Rattle.portal.specs.Promises.{lent, Opens, Steps, Orders, Checks, Surveys}
 
@@ -50,9 +48,9 @@ abbrev pub anew : Line
 anew = lent (record { nb = 3; ne = 2; t = 2; reading = 0; p = 0; k = 0; desks = sixteen [] }) (replicate 3 unused) (replicate 6 0)
 
 pub record OpeningCase : Type 0 where
-  pub allowed : Opens started three Open anew
-  pub not_refused : Opens started three Unfit started → ⊥
-  pub not_an_entry_left : Opens started three Open (lent anew.head anew.table started.entries) → ⊥
+  pub allowed : Opens started three open·line anew
+  pub not_refused : Opens started three open·unfit started → ⊥
+  pub not_an_entry_left : Opens started three open·line (lent anew.head anew.table started.entries) → ⊥
 
 -- ---- the check of that line with a wrong round in block 1, and in block 2, which is unused, a label finished
 
@@ -60,16 +58,16 @@ abbrev pub torn : Line
 torn = lent started.head (block 0 2 0 0 ∷ block 5 1 0 0 ∷ block 0 0 0 1 ∷ []) started.entries
 
 pub record CheckCase : Type 0 where
-  pub allowed : Checks torn (Broken 1 4)
-  pub not_sound : Checks torn Sound → ⊥
-  pub not_the_last : Checks torn (Broken 2 4) → ⊥
+  pub allowed : Checks torn (broken 1 4)
+  pub not_sound : Checks torn sound → ⊥
+  pub not_the_last : Checks torn (broken 2 4) → ⊥
 
 -- ---- the survey of that line: only block 1 can be taken from
 
-abbrev pub seen : Findings
-seen = record { answer = surveyed; mask = 2; count = 1; lowest = 1 }
+abbrev pub seen : Surveyed
+seen = surveyed (record { mask = 2; count = 1; lowest = 1 })
 
 pub record SurveyCase : Type 0 where
   pub allowed : Surveys started seen
-  pub not_invented : Surveys started (record { answer = surveyed; mask = 2; count = 3; lowest = 1 }) → ⊥
-  pub not_refused : Surveys started (none survey·unfit) → ⊥
+  pub not_invented : Surveys started (surveyed (record { mask = 2; count = 3; lowest = 1 })) → ⊥
+  pub not_refused : Surveys started survey·unfit → ⊥

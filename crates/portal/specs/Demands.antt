@@ -15,16 +15,12 @@ use Rattle.book.specs.Counts.{placed, got, took, won, lost, unfetched, times_hel
 use Rattle.book.specs.Order.{placed_labels}
 use Rattle.line.specs.declared.Block.{Block}
 use Rattle.line.specs.declared.Head.{Head}
-use Rattle.line.specs.declared.Checked.{Checked}
-use Rattle.line.specs.declared.Checked.TheVariants.{Sound as sound, Unfit as unfit, Broken}
-use Rattle.line.specs.declared.Opening.{Opening}
-use Rattle.line.specs.declared.Opening.TheVariants.{Open, Unfit}
-use Rattle.line.specs.declared.Surveyed.TheVariants.{Survey as surveyed, Unfit as survey·unfit, Damaged as survey·damaged}
 use Rattle.line.specs.declared.Findings.{Findings}
 use Rattle.line.specs.Line.{Line, says, size_of, desk_at, desk_step, get_at, with_desk, with_head, record_of, opened}
 use Rattle.line.specs.Rules.{Sound}
-use Rattle.line.specs.Check.{fit}
-use Rattle.line.specs.Survey.{none}
+use Rattle.line.specs.Check.{Checked, sound, unfit, broken as broken_at, fit}
+use Rattle.line.specs.Calls.{Opening, open·line, open·unfit}
+use Rattle.line.specs.Survey.{Surveyed, surveyed, survey·unfit, survey·damaged, found}
 use Rattle.line.specs.Refusals.{When}
 use Rattle.line.specs.Demands.{FirstBroken, Guarded, Ordered, bit_at, ones, LeastBit}
 use Rattle.portal.specs.Promises.{lent, Opens, Steps, Orders, Checks, Surveys}
@@ -35,9 +31,10 @@ Fit l = T (fit (size_of l.head) l.table l.entries)
 -- ---- demand 1: opening, and what is refused before anything is read
 
 pub record OpeningSays (lent : Line) (z : Size) (r : Opening) (l : Line) : Type 0 where
-  pub answer : (r ≡ Open) ↔ T (fit z lent.table lent.entries)
-  pub fresh : r ≡ Open → l ≡ opened z
-  pub left : r ≡ Unfit → l ≡ lent
+  pub answer : (r ≡ open·line) ↔ T (fit z lent.table lent.entries)
+  pub unfit : (r ≡ open·unfit) ↔ (T (fit z lent.table lent.entries) → ⊥)
+  pub fresh : r ≡ open·line → l ≡ opened z
+  pub left : r ≡ open·unfit → l ≡ lent
 
 unfoldable pub OpeningTold : Type 0
 OpeningTold = (lent l : Line) (z : Size) (r : Opening) → Opens lent z r l → OpeningSays lent z r l
@@ -80,9 +77,9 @@ OrderRefusedWhen = (l m : Line) (first last : ℕ) (r : Answer) → Orders l fir
 pub record CheckSays (l : Line) (r : Checked) : Type 0 where
   pub unfit : (r ≡ unfit) ↔ (Fit l → ⊥)
   pub sound : (r ≡ sound) ↔ (Fit l × Sound l)
-  pub broken : (place rule : ℕ) → r ≡ Broken place rule → Fit l × FirstBroken l place rule
+  pub broken : (place rule : ℕ) → r ≡ broken_at place rule → Fit l × FirstBroken l place rule
   -- and the other way: the first rule that is broken is named, with its place
-  pub first : (place rule : ℕ) → Fit l → FirstBroken l place rule → r ≡ Broken place rule
+  pub first : (place rule : ℕ) → Fit l → FirstBroken l place rule → r ≡ broken_at place rule
 
 unfoldable pub CheckTold : Type 0
 CheckTold = (l : Line) (r : Checked) → Checks l r → CheckSays l r
@@ -95,7 +92,7 @@ CheckUnread =
 
 unfoldable pub SurveyUnread : Type 0
 SurveyUnread =
-    (h : Head) (t : List Block) (es fs : List ℕ) (v w : Findings) → length es ≡ length fs
+    (h : Head) (t : List Block) (es fs : List ℕ) (v w : Surveyed) → length es ≡ length fs
     → Surveys (lent h t es) v → Surveys (lent h t fs) w → v ≡ w
 
 -- ---- demand 2: a line is opened in whatever was lent, and then steps and orders are called, each lent what the one
@@ -124,7 +121,7 @@ Runs l (c ∷ cs) (r ∷ rs) m = (k : Line) × Allows l c r k × Runs k cs rs m
 pub record Run (z : Size) (cs : List Call) (rs : List Answer) (m : Line) : Type 0 where
   pub lent : Line
   pub line : Line
-  pub opens : Opens lent z Open line
+  pub opens : Opens lent z open·line line
   pub runs : Runs line cs rs m
 
 -- each answer is the one that the book gives
@@ -172,14 +169,14 @@ pub record Names (l : Line) (v : Findings) : Type 0 where
   pub count : v.count ≡ ones 64 v.mask
   pub lowest : LeastBit v.mask v.lowest
 
-pub record SurveySays (l : Line) (v : Findings) : Type 0 where
-  pub unfit : (Fit l → ⊥) → v ≡ none survey·unfit
-  pub damaged : Fit l → (Sound l → ⊥) → v ≡ none survey·damaged
-  pub answer : Fit l → Sound l → v.answer ≡ surveyed
-  pub names : Fit l → Sound l → Names l v
+pub record SurveySays (l : Line) (v : Surveyed) : Type 0 where
+  pub unfit : (Fit l → ⊥) → v ≡ survey·unfit
+  pub damaged : Fit l → (Sound l → ⊥) → v ≡ survey·damaged
+  pub answer : Fit l → Sound l → v ≡ surveyed (found v)
+  pub names : Fit l → Sound l → Names l (found v)
 
 unfoldable pub SurveyTold : Type 0
-SurveyTold = (l : Line) (v : Findings) → Surveys l v → SurveySays l v
+SurveyTold = (l : Line) (v : Surveyed) → Surveys l v → SurveySays l v
 
 -- ---- demand 3
 

@@ -1,3 +1,4 @@
 pub mod Promises
+pub mod Lending
 pub mod Cases
 pub mod Demands

@@ -9,14 +9,11 @@ use Rattle.book.specs.Sizes.{Size}
 use Rattle.book.specs.Steps.{Step}
 use Rattle.line.specs.declared.Block.{Block}
 use Rattle.line.specs.declared.Head.{Head}
-use Rattle.line.specs.declared.Opening.{Opening}
-use Rattle.line.specs.declared.Checked.{Checked}
-use Rattle.line.specs.declared.Findings.{Findings}
 use Rattle.line.specs.Line.{Line, Outcome}
-use Rattle.line.specs.Check.{check}
-use Rattle.line.specs.Calls.{Opened, opens, step, orders}
+use Rattle.line.specs.Check.{Checked, check}
+use Rattle.line.specs.Calls.{Opening, Opened, opens, step, orders}
 use Rattle.line.specs.Numbers.{OpeningSaid, opening_said, check_said, survey_said}
-use Rattle.line.specs.Survey.{survey}
+use Rattle.line.specs.Survey.{Surveyed, survey}
 
 -- what is lent, at any lengths: head, table and entries
 abbrev pub lent : Head → List Block → List ℕ → Line
@@ -56,5 +53,5 @@ Orders l first last r m = record { line = m; said = said r } ≡ told (orders l 
 abbrev pub Checks : Line → Checked → Type 0
 Checks l r = check_said r ≡ check_said (check l)
 
-abbrev pub Surveys : Line → Findings → Type 0
+abbrev pub Surveys : Line → Surveyed → Type 0
 Surveys l r = survey_said r ≡ survey_said (survey l)

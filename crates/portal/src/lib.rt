@@ -7,11 +7,11 @@
 // length is asked for beforehand: a call that cannot be done answers with one of the paper's refusals,
 // and leaves what was lent as it was, unless the paper says otherwise.
 //
-//     open     makes a line of what is lent: Open, or Unfit
+//     open     makes a line of what is lent: Ok, or Unfit
 //     step     one message of the owner or of a desk: its answer
 //     order    puts the labels first to last until one is refused: Whole, or the refusal with the count
-//     check    is the line sound: Sound, Unfit, or the place and the rule that is broken
-//     survey   at which blocks a look would be SEEN: a mask, their number, the lowest
+//     check    is the line sound: Ok, or its fault: Unfit, or the place and the rule that is broken
+//     survey   at which blocks a look would be SEEN: a mask, their number, the lowest; or a refusal
 //
 // A line of 2 blocks of 2 entries, for 1 desk, with its first label:
 //
@@ -20,10 +20,34 @@
 //
 // `words::number`, `words::value` and `words::word` tell an answer's number, value and word. Each
 // call's promise is one equation with the line's own definitions: specs/Promises.antt.
+//
+// Head, table and entries come one by one, and so do the numbers of `open` and `step`: the C interface lends and gives
+// them so, and so the README writes the calls.
+ghost use Rattle.engine.specs.Promises.{GivesOpening, GivesStep, GivesOrder};
+ghost use Rattle.portal.specs.Lending.{Lends};
 ghost use Rattle.portal.specs.Promises.{lent, the_size, the_step, Opens, Steps, Orders, Checks, Surveys};
 
-use line::{Block, Checked, Findings, Head, Opening};
-use words::Answer;
+use book::Size;
+use byvalue::Outcome;
+use line::{Block, Fault, Findings, Head};
+use words::{Answer, Refusal};
+
+// One call by value on what is lent. The head is unpacked and the records are loaded; the records and the head that the
+// call gives back are stored.
+fn lend<A, F: FnOnce(Head, [Block; 64], usize, &mut [u32]) -> Outcome<A>>(
+    head: &mut Head,
+    table: &mut [Block],
+    entries: &mut [u32],
+    call: F,
+) -> A
+    requires { F.IsAlwaysCallable call }
+    ensures { Lends F.FnOnce call (lent head.old table.old entries.old) result (lent head.new table.new entries.new) }
+{
+    let after = call(*head, table::load(table), table.len(), entries);
+    table::store(table, after.table);
+    *head = after.head;
+    after.answer
+}
 
 // Opens a line of nb blocks, ne entries a block and t desks in what is lent.
 pub fn open(
@@ -33,17 +57,14 @@ pub fn open(
     nb: u16,
     ne: u16,
     t: u16,
-) -> Opening
+) -> Result<(), Refusal>
     ensures { Opens (lent head.old table.old entries.old) (the_size nb ne t) result (lent head.new table.new entries.new) }
 {
-    let n = table.len();
-    let records = table::load(table);
-    let h = *head;
-    let r = engine::opening::open(h, records, n, entries, nb, ne, t);
-    let after = r.table;
-    table::store(table, after);
-    *head = r.head;
-    r.answer
+    let z = Size { nb, ne, t };
+    let call = |h: Head, records: [Block; 64], n: usize, es: &mut [u32]| -> Outcome<Result<(), Refusal>>
+        ensures { GivesOpening h records n es.old z result es.new }
+    { engine::opening::open(h, records, n, es, z) };
+    lend(head, table, entries, call)
 }
 
 // One step: a code and two numbers.
@@ -57,14 +78,10 @@ pub fn step(
 ) -> Answer
     ensures { Steps (lent head.old table.old entries.old) (the_step code a b) result (lent head.new table.new entries.new) }
 {
-    let n = table.len();
-    let records = table::load(table);
-    let h = *head;
-    let r = engine::step::step(h, records, n, entries, code, a, b);
-    let after = r.table;
-    table::store(table, after);
-    *head = r.head;
-    r.answer
+    let call = |h: Head, records: [Block; 64], n: usize, es: &mut [u32]| -> Outcome<Answer>
+        ensures { GivesStep h records n es.old (the_step code a b) result es.new }
+    { engine::step::step(h, records, n, es, code, a, b) };
+    lend(head, table, entries, call)
 }
 
 // The labels first to last, both included.
@@ -77,34 +94,22 @@ pub fn order(
 ) -> Answer
     ensures { Orders (lent head.old table.old entries.old) first last result (lent head.new table.new entries.new) }
 {
-    let n = table.len();
-    let records = table::load(table);
-    let h = *head;
-    let r = engine::step::order(h, records, n, entries, first, last);
-    let after = r.table;
-    table::store(table, after);
-    *head = r.head;
-    r.answer
+    let call = |h: Head, records: [Block; 64], n: usize, es: &mut [u32]| -> Outcome<Answer>
+        ensures { GivesOrder h records n es.old first last result es.new }
+    { engine::step::order(h, records, n, es, first, last) };
+    lend(head, table, entries, call)
 }
 
 // Is the line sound? Nothing is changed.
-pub fn check(head: &Head, table: &[Block], entries: &[u32]) -> Checked
+pub fn check(head: &Head, table: &[Block], entries: &[u32]) -> Result<(), Fault>
     ensures { Checks (lent head.now table.now entries.now) result }
 {
-    let n = table.len();
-    let m = entries.len();
-    let records = table::load(table);
-    let h = *head;
-    rules::check(h, records, n, m)
+    rules::check(*head, table::load(table), table.len(), entries.len())
 }
 
 // Where could an idle desk take from? Nothing is changed.
-pub fn survey(head: &Head, table: &[Block], entries: &[u32]) -> Findings
+pub fn survey(head: &Head, table: &[Block], entries: &[u32]) -> Result<Findings, Refusal>
     ensures { Surveys (lent head.now table.now entries.now) result }
 {
-    let n = table.len();
-    let m = entries.len();
-    let records = table::load(table);
-    let h = *head;
-    engine::survey::survey(h, records, n, m)
+    engine::survey::survey(*head, table::load(table), table.len(), entries.len())
 }

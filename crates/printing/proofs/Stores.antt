@@ -1,13 +1,15 @@
 -- Bytes stored one behind the other: two runs of stores are one, and a run of stores from place 0 is a front.
 use mathlib.Core.Path.{◌≡◌, refl, sym, ap, ap₂, subst, ◌∙◌}
 use mathlib.Core.List.{List, [], ◌∷◌, ◌++◌}
-use Prim.Native.Nat.{ℕ, suc, ◌+◌, ◌≤◌, ◌<◌}
+use Prim.Native.Nat.{ℕ, suc, ◌+◌, ◌-◌, ◌≤◌, ◌<◌}
 use native.Mathlib.Nat.{add-zero, zero-add}
-use native.Mathlib.Numerals.{add-one}
 use native.Mathlib.Omega.{arith}
-use lib.ListN.{length, get_or, take, drop, set, length-append}
-use lib.Seq.{sets, sets-eq, length-sets, take-suc}
+use lib.ListN.{length, take, drop, set, length-append}
+use lib.Seq.{sets, sets-eq, length-sets, take-length}
+use borrow.Rule.Slice.PartMut.{put_mid}
+use Rattle.std.proofs.lemmas.Slice.{put_mid-paste}
 use Rattle.printing.specs.Writes.{Writes}
+use Rattle.printing.specs.Page.{Page, HasRoom, Wrote}
 
 sets_append : (o : List ℕ) (at : ℕ) (xs ys : List ℕ) → sets o at (xs ++ ys) ≡ sets (sets o at xs) (at + length xs) ys
 sets_append o at [] ys = rw (add-zero at)
@@ -41,18 +43,37 @@ writes_most at k r xs o after h w = let a = w.answer in omega arith
 pub writes_left : (at k j r : ℕ) (xs o after : List ℕ) → length xs ≤ k → at + (k + j) ≤ length o → Writes at xs o r after → r + j ≤ length after
 writes_left at k j r xs o after h room w = let e = writes_length at r xs o after w in let m = writes_most at k r xs o after h w in omega arith
 
--- one byte more of those that are copied
-pub writes_next : (at i : ℕ) (xs o o₁ : List ℕ) → i < length xs → at + i < length o → Writes at (take i xs) o (at + i) o₁
-    → Writes at (take (i + 1) xs) o (at + (i + 1)) (set o₁ (at + i) (get_or xs i 0))
-writes_next at i xs o o₁ h k w =
-    let b = get_or xs i 0 in
-    let e : at + i + 1 ≡ at + (i + 1) = omega arith in
-    let v = writes_one (at + i) b o₁ (subst (λ (n : ℕ). at + i < n) (sym (writes_length at (at + i) (take i xs) o o₁ w)) k) in
-    let more = writes_more at (at + i) (at + i + 1) (take i xs) (b ∷ []) o o₁ (set o₁ (at + i) b) w v in
-    subst (λ (n : ℕ). Writes at (take (i + 1) xs) o n (set o₁ (at + i) b)) e (rw (add-one i, take-suc xs i 0 h) more)
-
 -- from place 0 on
 pub front : (xs o after : List ℕ) (r : ℕ) → Writes 0 xs o r after → (r ≡ length xs) × (after ≡ xs ++ drop (length xs) o)
 front xs o after r w =
     let e : 0 + length xs ≡ length xs = zero-add (length xs) in let a = w.answer in let h = w.room in
     (a ∙ e, w.bytes ∙ sets-eq xs o 0 (omega arith) ∙ ap (λ (n : ℕ). xs ++ drop n o) e)
+
+-- a run of bytes copied into its part of the room
+pub copied : (at : ℕ) (xs ys room : List ℕ) → ys ≡ xs → at + length xs ≤ length room → Writes at xs room (at + length xs) (put_mid at (at + length xs - at) room ys)
+copied at xs ys room e h = record {
+  room = h;
+  answer = refl;
+  bytes =
+      put_mid-paste at (at + length xs - at) room ys xs (length xs) e (omega arith) refl
+      ∙ ap (λ (l : List ℕ). take at room ++ l ++ drop (at + length xs) room) (take-length xs)
+      ∙ sym (sets-eq xs room at h);
+}
+
+-- ---- on a page
+
+pub wrote_none : (p : Page) → p.len ≤ length p.room.now → Wrote [] p p
+wrote_none p h = record { same = refl; writes = writes_none p.len p.room.now h }
+
+pub wrote_more : (xs ys : List ℕ) (a b c : Page) → Wrote xs a b → Wrote ys b c → Wrote (xs ++ ys) a c
+wrote_more xs ys a b c w v = record {
+  same = v.same ∙ w.same;
+  writes = writes_more a.len b.len c.len xs ys a.room.now b.room.now c.room.now w.writes v.writes;
+}
+
+-- where k bounds what was written, so much room is left
+pub wrote_left : (k j : ℕ) (xs : List ℕ) (a b : Page) → length xs ≤ k → HasRoom (k + j) a → Wrote xs a b → HasRoom j b
+wrote_left k j xs a b h room w = writes_left a.len k j b.len xs a.room.now b.room.now h room w.writes
+
+pub wrote_most : (k : ℕ) (xs : List ℕ) (a b : Page) → length xs ≤ k → Wrote xs a b → b.len ≤ a.len + k
+wrote_most k xs a b h w = writes_most a.len k b.len xs a.room.now b.room.now h w.writes

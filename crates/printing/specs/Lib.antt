@@ -1,4 +1,5 @@
 pub mod Text
 pub mod Writes
+pub mod Page
 pub mod Decimal
 pub mod Cases

@@ -1,12 +1,7 @@
 -- What a function that writes promises: bytes stored from a place on, and the place behind them. And the room that it
 -- asks for.
-use Rattle.std.specs.Prelude.{◌≡◌, List, ℕ, ◌+◌, ◌≤◌, length, take}
+use Rattle.std.specs.Prelude.{◌≡◌, List, ℕ, ◌+◌, ◌≤◌, length}
 use Rattle.std.proofs.lemmas.List.Edits.{sets}
-use Rattle.words.specs.declared.Letters.{Letters}
-
--- the letters of a word as it is handed over
-abbrev pub letters_of : Letters → List ℕ
-letters_of w = take w.len w.bytes
 
 -- a word has eight letters at most
 abbrev pub letters_most : ℕ

@@ -1,94 +1,92 @@
 #![tactic(auto)]
 
-// Printed lines: a number, a word and a value in decimal, with a space between, and a newline. Each
-// function writes into `out` from a place on, and answers the place behind what it wrote; what is written
-// stands in specs/Text.antt, and how in specs/Writes.antt.
+// Printed lines: a number, a word and a value in decimal, with a space between, and a newline.
 //
-// `write_line` writes a line with any word, and `write_answer` the line of an answer.
-ghost use Rattle.std.specs.Prelude.{◌≡◌, ◌∷◌, [], ◌++◌, ◌+◌, ◌≤◌, ◌<◌, length};
-ghost use Rattle.printing.specs.Text.{space, digit, decimal, line_text, answer_text, numbers_below};
-ghost use Rattle.printing.specs.Writes.{Writes, letters_of, letters_most, line_most};
+// A `Page` takes what is written, piece behind piece, into a room that its caller lends. What a line is stands in
+// specs/Text.antt, and what a piece leaves of a page in specs/Page.antt.
+ghost use Rattle.std.specs.Prelude.{◌≡◌, ◌∷◌, [], ◌+◌, ◌≤◌, ◌<◌, length};
+ghost use Rattle.printing.specs.Text.{decimal, line_text, answer_text, numbers_below};
+ghost use Rattle.printing.specs.Writes.{letters_most, line_most};
+ghost use Rattle.printing.specs.Page.{Blank, HasRoom, Wrote};
 
-use words::{Answer, Letters, value, word};
+use itoa::Buffer;
+use words::{Answer, value, word};
 
 // The longest line, in bytes: a number of four digits, a word of eight letters, a value of ten digits, two
 // spaces and a newline.
 pub const LINE: usize = 25;
 
-pub fn write_byte(out: &mut [u8], at: usize, byte: u8) -> usize
-    requires { at < length out.old }
-    ensures { Writes at (byte ∷ []) out.old result out.new }
-{
-    out[at] = byte;
-    at + 1
+// What is written stands in the first `len` bytes of the room.
+#[derive(Drop)]
+pub struct Page<'a> {
+    pub room: &'a mut [u8],
+    pub len: usize,
 }
 
-fn digit_of(d: u32) -> u8
-    requires { d < 10 }
-    ensures { result ≡ digit d }
-{
-    48 + d as u8
-}
-
-// The digits above the last one first.
-pub fn write_decimal(out: &mut [u8], at: usize, n: u32) -> usize
-    requires { at + length (decimal n) ≤ length out.old }
-    ensures { Writes at (decimal n) out.old result out.new }
-{
-    if n < 10 {
-        return write_byte(out, at, digit_of(n));
+impl<'a> Page<'a> {
+    // A page with nothing on it.
+    pub fn new(room: &'a mut [u8]) -> Page<'a>
+        ensures { Blank room.entry result }
+    {
+        Page { room, len: 0 }
     }
-    let last = write_decimal(out, at, n / 10);
-    write_byte(out, last, digit_of(n % 10))
-}
 
-// A number and the byte behind it.
-fn write_number(out: &mut [u8], at: usize, n: u32, mark: u8) -> usize
-    requires { at + (length (decimal n) + 1) ≤ length out.old }
-    ensures { Writes at (decimal n ++ (mark ∷ [])) out.old result out.new }
-{
-    let end = write_decimal(out, at, n);
-    write_byte(out, end, mark)
-}
-
-// A word's letters.
-pub fn write_letters(out: &mut [u8], at: usize, word: Letters) -> usize
-    requires { (at + letters_most ≤ length out.old) × (word.len ≤ letters_most) }
-    ensures { Writes at (letters_of word) out.old result out.new }
-{
-    let bytes = word.bytes;
-    let len = word.len as usize;
-    for i in 0..len {
-        out[at + i] = bytes[i];
+    pub fn byte(&mut self, byte: u8)
+        requires { HasRoom 1 self.old }
+        ensures { Wrote (byte ∷ []) self.old self.new }
+    {
+        self.room[self.len] = byte;
+        self.len += 1;
     }
-    at + len
-}
 
-// A word and the space behind it.
-fn write_word(out: &mut [u8], at: usize, word: Letters) -> usize
-    requires { (at + (letters_most + 1) ≤ length out.old) × (word.len ≤ letters_most) }
-    ensures { Writes at (letters_of word ++ (space ∷ [])) out.old result out.new }
-{
-    let end = write_letters(out, at, word);
-    write_byte(out, end, b' ')
-}
+    #[tactic(auto, using(crate::proofs::Stores::copied))]
+    pub fn bytes(&mut self, bytes: &[u8])
+        requires { HasRoom (length bytes.now) self.old }
+        ensures { Wrote bytes.now self.old self.new }
+    {
+        let end = self.len + bytes.len();
+        self.room[self.len..end].copy_from_slice(bytes);
+        self.len = end;
+    }
 
-// A line: number, word and value, with a space between, and a newline.
-pub fn write_line(out: &mut [u8], at: usize, number: u32, word: Letters, value: u32) -> usize
-    requires { (at + line_most ≤ length out.old) × (number < numbers_below) × (word.len ≤ letters_most) }
-    ensures writes { Writes at (line_text number (letters_of word) value) out.old result out.new }
-    ensures upper_bound { result ≤ at + line_most }
-{
-    let numbered = write_number(out, at, number, b' ');
-    let worded = write_word(out, numbered, word);
-    write_number(out, worded, value, b'\n')
-}
+    pub fn text(&mut self, text: &str)
+        requires { HasRoom (length text.now) self.old }
+        ensures { Wrote text.now self.old self.new }
+    {
+        self.bytes(text.as_bytes());
+    }
 
-// The line of step `number`, which `answer` answered.
-pub fn write_answer(out: &mut [u8], at: usize, number: u32, answer: Answer) -> usize
-    requires { (at + line_most ≤ length out.old) × (number < numbers_below) }
-    ensures writes { Writes at (answer_text number answer) out.old result out.new }
-    ensures upper_bound { result ≤ at + line_most }
-{
-    write_line(out, at, number, word(answer), value(answer))
+    // A number in decimal.
+    #[tactic(auto, using(crate::proofs::Decimals::as_printed))]
+    pub fn number(&mut self, n: u32)
+        requires { HasRoom (length (decimal n)) self.old }
+        ensures { Wrote (decimal n) self.old self.new }
+    {
+        let mut digits = Buffer::new();
+        self.text(digits.format(n));
+    }
+
+    // A line: number, word and value, with a space between, and a newline.
+    #[tactic(auto, using(crate::proofs::Lines::number_room, crate::proofs::Lines::behind_number, crate::proofs::Lines::first_space, crate::proofs::Lines::word_room, crate::proofs::Lines::behind_word, crate::proofs::Lines::second_space, crate::proofs::Lines::value_room, crate::proofs::Lines::behind_value))]
+    pub fn line(&mut self, number: u32, word: &str, value: u32)
+        requires { HasRoom line_most self.old × (number < numbers_below) × (length word.now ≤ letters_most) }
+        ensures writes { Wrote (line_text number word.now value) self.old self.new }
+        ensures upper_bound { self.new.len ≤ self.old.len + line_most }
+    {
+        self.number(number);
+        self.byte(b' ');
+        self.text(word);
+        self.byte(b' ');
+        self.number(value);
+        self.byte(b'\n');
+    }
+
+    // The line of step `number`, which `answer` answered.
+    pub fn answer(&mut self, number: u32, answer: Answer)
+        requires { HasRoom line_most self.old × (number < numbers_below) }
+        ensures writes { Wrote (answer_text number answer) self.old self.new }
+        ensures upper_bound { self.new.len ≤ self.old.len + line_most }
+    {
+        self.line(number, word(answer), value(answer));
+    }
 }

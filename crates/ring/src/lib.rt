@@ -2,12 +2,11 @@
 
 // Where turns stand: round the NB blocks, turn t in block t mod NB.
 //
-// Block `last` is P's own, p mod nb, which a caller makes once. Any other block stands as many blocks back from it, round
-// the NB blocks, as its current turn is before P: so the block of a current turn, and the current turn of a block, are
-// found without a division.
+// Block `last` is P's own, p mod nb, found once. Any other block stands as many blocks back from it, round the NB blocks,
+// as its current turn is before P: so the block of a current turn, and the current turn of a block, are found without a
+// division.
 ghost use Rattle.std.specs.Prelude.{◌≡◌, true, ◌+◌, ◌-◌, ◌%◌, ◌≤◌, ◌<◌};
 ghost use Rattle.line.specs.Tests.{is_recent};
-ghost use Rattle.ring.specs.Ring.{Ring};
 
 // The block in which a turn stands.
 pub fn block_of(turn: u32, nb: u32) -> usize
@@ -23,51 +22,70 @@ pub fn block_after(block: usize, nb: u32) -> usize
     ensures { (result ≡ (block + 1) % nb) × (result < 64) }
 {
     let next = block + 1;
-    if next < (nb as usize) { next } else { 0 }
+    if next < nb as usize { next } else { 0 }
 }
 
-// A turn is its block's current one if it is among the last NB turns up to P.
-pub fn is_current(nb: u32, p: u32, turn: u32) -> bool
-    ensures { result ≡ is_recent nb p turn }
-{
-    if p < turn {
-        return false;
-    }
-    p - turn < nb
+// The NB blocks, and the one of them in which turn P stands.
+#[derive(Clone, Copy, Debug, PartialEq, Eq)]
+pub struct Ring {
+    pub nb: u32,
+    pub p: u32,
+    last: u32,
+    pub ghost some: { 0 < nb },
+    pub ghost few: { nb ≤ 64 },
+    pub ghost stands: { last ≡ p % nb },
 }
 
-// The block that stands `steps` blocks back from block `last`.
-fn back(nb: u32, last: u32, steps: u32) -> u32
-    requires { (nb ≤ 64) × (last < nb) × (steps < nb) }
-    ensures { result ≡ (last + nb - steps) % nb }
-{
-    if steps <= last {
-        last - steps
-    } else {
-        last + nb - steps
+impl Ring {
+    pub fn new(nb: u32, p: u32) -> Self
+        requires { (1 ≤ nb) × (nb ≤ 64) }
+        ensures { (result.nb ≡ nb) × (result.p ≡ p) }
+    {
+        Ring {
+            nb,
+            p,
+            last: p % nb,
+        }
     }
-}
 
-// The block of a current turn. No record is read for any other: block 0 stands for it.
-pub fn current_block(nb: u32, p: u32, last: u32, turn: u32) -> usize
-    requires { Ring nb p last }
-    ensures { (result < nb) × (is_recent nb p turn ≡ true → result ≡ turn % nb) }
-{
-    if is_current(nb, p, turn) {
-        back(nb, last, p - turn) as usize
-    } else {
-        0
+    // A turn is its block's current one if it is among the last NB turns up to P.
+    pub fn is_current(self, turn: u32) -> bool
+        ensures { result ≡ is_recent self.nb self.p turn }
+    {
+        turn <= self.p && self.p - turn < self.nb
     }
-}
 
-// The current turn of block i; P for an unused block.
-pub fn current_turn(nb: u32, p: u32, last: u32, i: u32) -> u32
-    requires ring { Ring nb p last }
-    requires i_lt_nb { i < nb }
-    ensures { result ≡ p - (p - i) % nb }
-{
-    if p < i {
-        return p;
+    // The block that stands `steps` blocks back from block `last`.
+    fn back(self, steps: u32) -> u32
+        requires { steps < self.nb }
+        ensures { result ≡ (self.last + self.nb - steps) % self.nb }
+    {
+        if steps <= self.last {
+            self.last - steps
+        } else {
+            self.last + self.nb - steps
+        }
     }
-    p - back(nb, last, i)
+
+    // The block of a current turn. No record is read for any other: block 0 stands for it.
+    pub fn current_block(self, turn: u32) -> usize
+        ensures { (result < self.nb) × (is_recent self.nb self.p turn ≡ true → result ≡ turn % self.nb) }
+    {
+        if self.is_current(turn) {
+            self.back(self.p - turn) as usize
+        } else {
+            0
+        }
+    }
+
+    // The current turn of block i; P for an unused block.
+    pub fn current_turn(self, i: u32) -> u32
+        requires { i < self.nb }
+        ensures { result ≡ self.p - (self.p - i) % self.nb }
+    {
+        if self.p < i {
+            return self.p;
+        }
+        self.p - self.back(i)
+    }
 }

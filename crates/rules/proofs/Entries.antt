@@ -4,9 +4,8 @@ use mathlib.Core.List.{List}
 use Prim.Native.Nat.{ℕ}
 use lib.ListN.{length, replicate, length-replicate}
 use Rattle.line.specs.declared.Block.{Block}
-use Rattle.line.specs.declared.Checked.{Checked}
 use Rattle.line.specs.declared.Head.{Head}
-use Rattle.line.specs.Check.{check}
+use Rattle.line.specs.Check.{Checked, check}
 use Rattle.line.specs.Demands.{CheckUnread}
 use Rattle.line.proofs.Unread.{check_unread}
 use Rattle.byvalue.specs.Lent.{line_of}

@@ -1,23 +1,26 @@
--- The first rule broken, asked one by one.
-use mathlib.Core.Path.{◌≡◌, refl, sym, ap, ◌∙◌}
-use mathlib.Core.Bool.{Bool, true, false}
-use mathlib.Core.List.{List, [], ◌∷◌}
-use Prim.Native.Nat.{ℕ, suc, ◌+◌, ◌-◌, ◌%◌, ◌≤◌, ◌<◌}
-use native.Mathlib.Numerals.{add-one}
-use native.Mathlib.Omega.{arith}
-use lib.ListN.{length, replicate, length-replicate}
+-- The check: UNFIT, or what the head's rules say, and then those of one block after another, each asked over plain numbers.
+use Rattle.std.specs.Prelude.{Ok, Err, if◌then◌else◌}
+use Rattle.std.proofs.Common.{◌≡◌, refl, sym, ap, ◌∙◌, Bool, true, false, List, [], map, ℕ, suc, ◌+◌, ◌-◌, ◌*◌, ◌<◌, ◌≤◌, ltb, length, replicate, get_or, take, add-one, arith}
+use native.Mathlib.Nat.{sub-zero}
+use lib.Dec.{ltb→lt}
+use lib.ListN.{length-replicate}
+use lib.Seq.{get_or-take}
+use Rattle.book.proofs.Choice.{and_second}
 use Rattle.line.specs.declared.Block.{Block}
-use Rattle.line.specs.declared.Checked.{Checked}
-use Rattle.line.specs.declared.Checked.TheVariants.{Sound, Unfit, Broken}
+use Rattle.line.specs.declared.Fault.{Fault}
 use Rattle.line.specs.declared.Head.{Head}
-use Rattle.line.specs.Line.{Line, size_of}
-use Rattle.line.specs.Rules.{Rule, rule1, rule2, rule3, rule4, rule5, rule6, rule7, rule_number, RuleAt, ask, of_blocks, in_order}
-use Rattle.line.specs.Check.{fit, holds, first_broken, check}
-use Rattle.byvalue.specs.Lent.{lent_table, line_of}
-use Rattle.ring.specs.Ring.{Ring}
-use Rattle.line.specs.Tests.{fitting}
-use Rattle.rules.proofs.Lengths.{fit_by, sized}
+use Rattle.line.specs.Line.{size_of, unused}
+use Rattle.line.specs.Rules.{of_blocks, in_order}
+use Rattle.line.specs.Check.{Checked, sound, unfit, fit, first_broken, check}
+use Rattle.line.specs.Tests.{fitting, is_recent, obeys1}
+use Rattle.line.proofs.Cells.{Valid}
 use Rattle.line.proofs.Unread.{broken_unread}
+use Rattle.byvalue.specs.Lent.{lent_table, line_of}
+use Rattle.ring.specs.declared.Ring.{Ring}
+use Rattle.rules.specs.Asked.{head_asked, block_asked}
+use Rattle.rules.specs.Holders.{held_turn}
+use Rattle.rules.proofs.Lengths.{fit_by, sized}
+use Rattle.rules.proofs.Plain as P
 use Rattle.rules.proofs.Plain.{bare}
 
 -- ---- UNFIT, or the rules in order
@@ -28,7 +31,7 @@ module _ (h : Head) (tb : List Block) (n m : ℕ) where
 
   -- what is known once the numbers fit
   pub record Fitted : Type 0 where
-    pub ring : Ring h.nb h.p (h.p % h.nb)
+    pub limits : Valid (size_of h)
     pub same : n ≡ h.nb
     pub order : answer ≡ first_broken (bare h tb) (in_order h.nb)
 
@@ -36,69 +39,83 @@ module _ (h : Head) (tb : List Block) (n m : ℕ) where
     fits_by : fit (size_of h) (lent_table tb n) (replicate m 0) ≡ r
     fits_by = rw (fit_by (size_of h) tb n (replicate m 0) full, length-replicate {A = ℕ} m 0) (sym said)
 
-    pub is_unfit : r ≡ false → Unfit ≡ answer
+    pub is_unfit : r ≡ false → unfit ≡ answer
     unfolding check
     is_unfit e = rw (fits_by, e)
 
     pub is_fit : r ≡ true → Fitted
     unfolding check
     is_fit e =
-        let s = sized (size_of h) n m r said e in let v = s.limits in
+        let s = sized (size_of h) n m r said e in
         record {
-          ring = record { some = omega (arith, v.nb); few = v.nb_most; stands = refl };
+          limits = s.limits;
           same = s.blocks;
           order = rw (fits_by, e)
               (broken_unread (line_of h tb n []) (replicate m 0) (in_order h.nb) ∙ ap (λ (k : ℕ). first_broken (line_of h tb k []) (in_order h.nb)) s.blocks);
         }
 
--- ---- the rules of the head, then those of a block
+-- ---- one answer, and then another
 
-module _ (l : Line) where
-  past : (i : ℕ) (r : Rule) (later : List RuleAt) → holds l i r ≡ true → first_broken l (ask i r ∷ later) ≡ first_broken l later
-  unfolding first_broken
-  past i r later e = rw e
+abbrev pub after : Checked → Checked → Checked
+after (Ok u) later = later
+after (Err f) later = Err f
 
-  stop : (i : ℕ) (r : Rule) (later : List RuleAt) → holds l i r ≡ false → first_broken l (ask i r ∷ later) ≡ Broken i (rule_number r)
-  unfolding first_broken
-  stop i r later e = rw e
+three : (a b c : Bool) (x y z : Fault) (later : Checked)
+    → (if a then (if b then (if c then later else Err z) else Err y) else Err x) ≡ after (if a then (if b then (if c then sound else Err z) else Err y) else Err x) later
+three false b c x y z later = refl
+three true false c x y z later = refl
+three true true false x y z later = refl
+three true true true x y z later = refl
 
-  module _ (nb : ℕ) where
-    pub head_1 : holds l 64 rule1 ≡ false → first_broken l (in_order nb) ≡ Broken 64 1
-    unfolding in_order
-    head_1 a = stop 64 rule1 _ a
+four : (a b c d : Bool) (w x y z : Fault) (later : Checked)
+    → (if a then (if b then (if c then (if d then later else Err z) else Err y) else Err x) else Err w)
+    ≡ after (if a then (if b then (if c then (if d then sound else Err z) else Err y) else Err x) else Err w) later
+four false b c d w x y z later = refl
+four true b c d w x y z later = three b c d x y z later
 
-    pub head_2 : holds l 64 rule1 ≡ true → holds l 64 rule2 ≡ false → first_broken l (in_order nb) ≡ Broken 64 2
-    unfolding in_order
-    head_2 a b = past 64 rule1 _ a ∙ stop 64 rule2 _ b
+-- what the rules of block i and of those above it say
+abbrev pub blocks_from : Head → List Block → ℕ → Checked
+blocks_from h tb i = first_broken (bare h tb) (of_blocks i (h.nb - i))
 
-    pub head_3 : holds l 64 rule1 ≡ true → holds l 64 rule2 ≡ true → holds l 64 rule3 ≡ false → first_broken l (in_order nb) ≡ Broken 64 3
-    unfolding in_order
-    head_3 a b c = past 64 rule1 _ a ∙ past 64 rule2 _ b ∙ stop 64 rule3 _ c
+module _ (h : Head) (tb : List Block) (v : Valid (size_of h)) where
+  some : 0 < h.nb
+  some = omega arith
 
-    pub head_past : holds l 64 rule1 ≡ true → holds l 64 rule2 ≡ true → holds l 64 rule3 ≡ true → first_broken l (in_order nb) ≡ first_broken l (of_blocks 0 nb)
-    unfolding in_order
-    head_past a b c = past 64 rule1 _ a ∙ past 64 rule2 _ b ∙ past 64 rule3 _ c
+  -- the head's rules, then the blocks'
+  pub head_first : first_broken (bare h tb) (in_order h.nb) ≡ after (head_asked h tb) (blocks_from h tb 0)
+  unfolding in_order first_broken
+  head_first =
+      rw (sub-zero h.nb, P.rule1 h tb some v.nb_most, P.rule2 h tb some v.nb_most, P.rule3 h tb some v.nb_most) (search three)
 
-  module _ (n i : ℕ) (h : i < n) where
-    more : of_blocks i (n - i) ≡ ask i rule4 ∷ ask i rule5 ∷ ask i rule6 ∷ ask i rule7 ∷ of_blocks (i + 1) (n - (i + 1))
-    unfolding of_blocks
-    more = let e : n - i ≡ suc (n - (i + 1)) = omega arith in rw (e, add-one)
-
-    pub block_4 : holds l i rule4 ≡ false → first_broken l (of_blocks i (n - i)) ≡ Broken i 4
-    block_4 d = ap (first_broken l) more ∙ stop i rule4 _ d
-
-    pub block_5 : holds l i rule4 ≡ true → holds l i rule5 ≡ false → first_broken l (of_blocks i (n - i)) ≡ Broken i 5
-    block_5 d e = ap (first_broken l) more ∙ past i rule4 _ d ∙ stop i rule5 _ e
-
-    pub block_6 : holds l i rule4 ≡ true → holds l i rule5 ≡ true → holds l i rule6 ≡ false → first_broken l (of_blocks i (n - i)) ≡ Broken i 6
-    block_6 d e f = ap (first_broken l) more ∙ past i rule4 _ d ∙ past i rule5 _ e ∙ stop i rule6 _ f
-
-    pub block_7 : holds l i rule4 ≡ true → holds l i rule5 ≡ true → holds l i rule6 ≡ true → holds l i rule7 ≡ false → first_broken l (of_blocks i (n - i)) ≡ Broken i 7
-    block_7 d e f g = ap (first_broken l) more ∙ past i rule4 _ d ∙ past i rule5 _ e ∙ past i rule6 _ f ∙ stop i rule7 _ g
-
-    pub block_past : holds l i rule4 ≡ true → holds l i rule5 ≡ true → holds l i rule6 ≡ true → holds l i rule7 ≡ true → first_broken l (of_blocks i (n - i)) ≡ first_broken l (of_blocks (i + 1) (n - (i + 1)))
-    block_past d e f g = ap (first_broken l) more ∙ past i rule4 _ d ∙ past i rule5 _ e ∙ past i rule6 _ f ∙ past i rule7 _ g
-
-  pub no_more : (n i : ℕ) → n ≤ i → first_broken l (of_blocks i (n - i)) ≡ Sound
+  -- the rules of block i, then those of the blocks above it
+  pub block_first : (i : ℕ) → i < h.nb → h.p < 65536 * h.nb
+      → blocks_from h tb i ≡ after (block_asked h.nb h.ne h.p (map held_turn h.desks) i (get_or tb i unused)) (blocks_from h tb (i + 1))
   unfolding of_blocks first_broken
-  no_more n i h = let e : n - i ≡ 0 = omega arith in rw e
+  block_first i b k =
+      let e : h.nb - i ≡ suc (h.nb - (i + 1)) = omega arith in
+      rw (e, add-one, P.rule4 h tb some v.nb_most i b, P.rule5 h tb some v.nb_most i b, P.rule6 h tb some v.nb_most i b, P.rule7 h tb some v.nb_most i b k)
+      (search four)
+
+  -- and what the code said of them, over a ring and turns made of the head
+  pub block_said : (ring : Ring) (turns : List ℕ) (n i : ℕ) (r : Checked) → ring.nb ≡ h.nb → ring.p ≡ h.p → turns ≡ map held_turn h.desks → n ≡ h.nb → i < n
+      → h.p < 65536 * h.nb → r ≡ block_asked ring.nb h.ne ring.p turns i (get_or (take n tb) i unused)
+      → blocks_from h tb i ≡ after r (blocks_from h tb (i + 1))
+  block_said ring turns n i r blocks p made same b k said =
+      let e : r ≡ block_asked h.nb h.ne h.p (map held_turn h.desks) i (get_or tb i unused) =
+      said ∙ rw (blocks, p, made, get_or-take n tb i unused b) refl in
+      rw e (block_first i (omega arith) k)
+
+-- where the head's rules hold, P has a round
+first_kept : (a b c : Bool) (x y z : Fault) → sound ≡ (if a then (if b then (if c then sound else Err z) else Err y) else Err x) → a ≡ true
+first_kept true b c x y z e = refl
+first_kept false b c x y z e = cc
+
+pub head_sound : (h : Head) (tb : List Block) → sound ≡ head_asked h tb → h.p < 65536 * h.nb
+head_sound h tb e =
+    let one : obeys1 h.nb h.p h.k ≡ true = first_kept _ _ _ _ _ _ e in
+    ltb→lt h.p (65536 * h.nb) (and_second (is_recent h.nb h.p h.k) (ltb h.p (65536 * h.nb)) (rw one tt))
+
+-- past the last block
+pub no_more : (h : Head) (tb : List Block) (i : ℕ) → h.nb ≤ i → blocks_from h tb i ≡ sound
+unfolding of_blocks first_broken
+no_more h tb i k = let e : h.nb - i ≡ 0 = omega arith in rw e

@@ -1,27 +1,21 @@
 -- The rules over plain numbers are those of the line that was lent, whatever its entries.
-use mathlib.Core.Path.{◌≡◌, refl, sym, ap, ap₂, ◌∙◌}
-use mathlib.Core.Bool.{Bool, true, false, not, ◌&&◌}
-use mathlib.Core.List.{List, []}
-use Prim.Native.Nat.{ℕ, ◌-◌, ◌*◌, ◌%◌, ◌<◌}
+use Rattle.std.proofs.Common.{◌≡◌, refl, sym, ap, ap₂, ◌∙◌, Bool, true, false, not, ◌&&◌, List, [], map, ℕ, ◌-◌, ◌*◌, ◌%◌, ◌<◌, ◌≤◌, leb, eqb, get_or, drop, count_by}
 use native.Mathlib.Nat.{mod-lt}
-use lib.Dec.{T, leb, ltb}
-use lib.ListN.{get_or, drop}
-use Rattle.book.specs.Total.{total, all}
+use Rattle.book.specs.Total.{all}
 use Rattle.book.specs.Sizes.{Size, current_turn}
-use Rattle.book.proofs.Choice.{cases, and_first, T→true, not→false}
+use Rattle.book.proofs.Choice.{cases, T→true, not→false}
 use Rattle.line.specs.declared.Block.{Block}
 use Rattle.line.specs.declared.Desk.{Desk as LentDesk}
 use Rattle.line.specs.declared.Head.{Head}
 use Rattle.line.specs.Line.{Line, desk_of, unused, size_of, record_of}
-use Rattle.line.specs.Rules.{held_in}
 use Rattle.line.specs.Rules as R
 use Rattle.byvalue.specs.Lent.{lent_table, line_of}
 use Rattle.line.specs.Tests.{desk_obeys, obeys1, is_idle, is_recent, no_clash, obeys2, obeys3, obeys4, obeys5, obeys6, obeys7}
 use Rattle.line.specs.Check.{holds}
-use Rattle.ring.specs.Ring.{Ring}
 use Rattle.byvalue.proofs.Lent.{lent_at}
 use Rattle.rules.proofs.Stages.{of_desk, idle_of}
-use Rattle.rules.proofs.Walks.{rest, all_cong}
+use Rattle.rules.specs.Holders.{held_turn}
+use Rattle.rules.proofs.Walks.{rest, all_cong, held_by_turn, turn_few}
 
 -- rule 3 of a desk over the table, but for the last test
 abbrev pub obeyed : ℕ → ℕ → ℕ → (ℕ → Block) → LentDesk → Bool
@@ -72,58 +66,54 @@ module _ (z : Size) (p : ℕ) (here : ℕ → Block) (xs : List LentDesk) where
 abbrev pub bare : Head → List Block → Line
 bare h tb = line_of h tb h.nb []
 
--- what the code said is what the check of the line says
-module _ (h : Head) (tb : List Block) {last : ℕ} (g : Ring h.nb h.p last) where
+-- the records of the blocks stand in the lent table as in the table of 64
+module _ (h : Head) (tb : List Block) (some : 0 < h.nb) (few : h.nb ≤ 64) where
   record_at_lem : (i : ℕ) → i < h.nb → get_or (lent_table tb h.nb) i unused ≡ get_or tb i unused
-  record_at_lem i b = lent_at h.nb g.few tb i unused b
+  record_at_lem i b = lent_at h.nb few tb i unused b
 
   record_of_lem : (u : ℕ) → record_of (size_of h) (lent_table tb h.nb) u ≡ record_of (size_of h) tb u
   unfolding record_of
-  record_of_lem u = record_at_lem (u % h.nb) (mod-lt u g.some)
+  record_of_lem u = record_at_lem (u % h.nb) (mod-lt u some)
 
   -- ---- the head
 
-  pub rule1 : (r : Bool) → r ≡ obeys1 h.nb h.p h.k → holds (bare h tb) 64 R.rule1 ≡ r
+  pub rule1 : holds (bare h tb) 64 R.rule1 ≡ obeys1 h.nb h.p h.k
   unfolding holds
-  rule1 r d = sym d
+  rule1 = refl
 
-  -- turn K is current by rule 1, so that i is its block
-  pub rule2 : (i : ℕ) (r : Bool) → holds (bare h tb) 64 R.rule1 ≡ true → (is_recent h.nb h.p h.k ≡ true → i ≡ h.k % h.nb) → r ≡ obeys2 (get_or tb i unused) h.reading
-      → holds (bare h tb) 64 R.rule2 ≡ r
-  unfolding holds record_of
-  rule2 i r one e k =
-      let b = is_recent h.nb h.p h.k in let c = ltb h.p (65536 * h.nb) in
-      let t : T (b && c) = rw one tt in
-      ap (λ (c : Block). obeys2 c h.reading) (record_of_lem h.k ∙ ap (λ (n : ℕ). get_or tb n unused) (sym (e (T→true b (and_first b c t))))) ∙ sym k
-
-  pub rule3 : (r : Bool) → r ≡ obeys3 (size_of h) h.p (record_of (size_of h) tb) h.desks → holds (bare h tb) 64 R.rule3 ≡ r
+  pub rule2 : holds (bare h tb) 64 R.rule2 ≡ obeys2 (record_of (size_of h) tb h.k) h.reading
   unfolding holds
-  rule3 r e = rule3_same (size_of h) h.p (record_of (size_of h) tb) h.desks (record_of (size_of h) (lent_table tb h.nb)) record_of_lem ∙ sym e
+  rule2 = ap (λ (c : Block). obeys2 c h.reading) (record_of_lem h.k)
 
-  -- ---- block i, with its current turn t
+  pub rule3 : holds (bare h tb) 64 R.rule3 ≡ obeys3 (size_of h) h.p (record_of (size_of h) tb) h.desks
+  unfolding holds
+  rule3 = rule3_same (size_of h) h.p (record_of (size_of h) tb) h.desks (record_of (size_of h) (lent_table tb h.nb)) record_of_lem
 
-  module _ (i : ℕ) (b : i < h.nb) (t : ℕ) (e : t ≡ h.p - (h.p - i) % h.nb) (r : Bool) where
+  -- ---- block i
+
+  module _ (i : ℕ) (b : i < h.nb) where
     abbrev used : Bool
     used = leb i h.p
 
-    turn : current_turn (size_of h) h.p i ≡ t
-    unfolding current_turn
-    turn = sym e
+    abbrev turn : ℕ
+    turn = h.p - (h.p - i) % h.nb
 
-    pub rule4 : r ≡ obeys4 used (get_or tb i unused) h.nb t → holds (bare h tb) i R.rule4 ≡ r
-    unfolding holds
-    rule4 k = ap₂ (λ (c : Block) (u : ℕ). obeys4 used c h.nb u) (record_at_lem i b) turn ∙ sym k
+    abbrev c : Block
+    c = get_or tb i unused
 
-    pub rule5 : r ≡ obeys5 used (get_or tb i unused) h.ne h.p t → holds (bare h tb) i R.rule5 ≡ r
-    unfolding holds
-    rule5 k = ap₂ (λ (c : Block) (u : ℕ). obeys5 used c h.ne h.p u) (record_at_lem i b) turn ∙ sym k
+    pub rule4 : holds (bare h tb) i R.rule4 ≡ obeys4 used c h.nb turn
+    unfolding holds current_turn
+    rule4 = ap (λ (c : Block). obeys4 used c h.nb turn) (record_at_lem i b)
 
-    pub rule6 : r ≡ obeys6 used (get_or tb i unused) t → holds (bare h tb) i R.rule6 ≡ r
-    unfolding holds
-    rule6 k = ap₂ (obeys6 used) (record_at_lem i b) turn ∙ sym k
+    pub rule5 : holds (bare h tb) i R.rule5 ≡ obeys5 used c h.ne h.p turn
+    unfolding holds current_turn
+    rule5 = ap (λ (c : Block). obeys5 used c h.ne h.p turn) (record_at_lem i b)
 
-    pub rule7 : (held : ℕ) → held ≡ total (λ x. held_in t (desk_of x)) h.desks → r ≡ obeys7 used (get_or tb i unused) held → holds (bare h tb) i R.rule7 ≡ r
-    unfolding holds
-    rule7 held d k =
-        ap₂ (λ (c : Block) (u : ℕ). obeys7 used c (total (λ x. held_in u (desk_of x)) h.desks)) (record_at_lem i b) turn
-        ∙ ap (obeys7 used (get_or tb i unused)) (sym d) ∙ sym k
+    pub rule6 : holds (bare h tb) i R.rule6 ≡ obeys6 used c turn
+    unfolding holds current_turn
+    rule6 = ap (λ (c : Block). obeys6 used c turn) (record_at_lem i b)
+
+    -- as many turns are held as there are desks that hold in it
+    pub rule7 : h.p < 65536 * h.nb → holds (bare h tb) i R.rule7 ≡ obeys7 used c (count_by (λ x. eqb x turn) (map held_turn h.desks))
+    unfolding holds current_turn
+    rule7 k = ap₂ (obeys7 used) (record_at_lem i b) (sym (held_by_turn turn h.desks (turn_few h.nb h.p i few k)))

@@ -2,21 +2,19 @@
 use Rattle.std.specs.Prelude.{if◌then◌else◌}
 use mathlib.Core.Path.{◌≡◌, refl, sym, ap, ap₂, subst, ◌∙◌}
 use mathlib.Core.Logic.{◌≢◌}
-use mathlib.Core.Bool.{Bool, true, false, not, ◌&&◌, ◌||◌}
+use mathlib.Core.Bool.{Bool, true, false, ◌&&◌, ◌||◌}
 use mathlib.Core.List.{List, [], ◌∷◌}
 use Prim.Native.Nat.{ℕ, zero, suc, ◌<◌}
 use native.Mathlib.Omega.{arith}
-use lib.Dec.{T, leb, ltb, eqb}
+use lib.Dec.{T, leb, eqb}
 use borrow.Author.Tests.{ne_eqb, lt-leb}
-use mir.Val.{bool_byte}
 use Rattle.book.specs.Total.{any}
 use Rattle.book.specs.Steps.{Hold, Desk, idle, looked, holding, claimed_at, with_fetched}
 use Rattle.book.proofs.Choice.{by_test, and_false}
-use Rattle.line.specs.declared.Block.{Block}
 use Rattle.line.specs.declared.Desk.{Desk as LentDesk}
 use Rattle.line.specs.Line.{Spot, desk_of, spot_of}
-use Rattle.line.specs.Tests.{desk_obeys, clashes, holds_at, is_idle, is_recent}
-use Rattle.rules.specs.Holders.{held_turn, is_holding, is_turn, no_turn}
+use Rattle.line.specs.Tests.{clashes, holds_at, is_idle}
+use Rattle.rules.specs.Holders.{held_turn, is_holding, no_turn}
 use Rattle.line.specs.Rules.{held_in}
 
 abbrev desk : ℕ → Spot → LentDesk
@@ -24,7 +22,6 @@ desk n s = record { stage = n; place = s.place; turn = s.turn }
 
 -- the tests of a number that is no stage
 record None (n : ℕ) : Type 0 where
-  zeroth : eqb n 0 ≡ false
   first : eqb n 1 ≡ false
   second : eqb n 2 ≡ false
   third : eqb n 3 ≡ false
@@ -32,7 +29,6 @@ record None (n : ℕ) : Type 0 where
 
 none : (n : ℕ) → 3 < n → None n
 none n h = record {
-  zeroth = ne_eqb n 0 (λ e. omega arith);
   first = ne_eqb n 1 (λ e. omega arith);
   second = ne_eqb n 2 (λ e. omega arith);
   third = ne_eqb n 3 (λ e. omega arith);
@@ -70,24 +66,13 @@ stray o =
     by_stage (λ x. x.stage ≢ 0 → (leb x.stage 3 && o (desk_of x) && is_idle (desk_of x)) ≡ false) (λ s k. absurd (k refl))
     (λ s k. and_false (o (looked s))) (λ s k. and_false (o (holding (claimed_at s)))) (λ s k. and_false (o (holding (with_fetched (claimed_at s))))) (λ s n w k. rw w.above)
 
--- ---- the turn in which a desk has claimed or fetched
+-- ---- the turn in which a desk has claimed or fetched: below the number that stands for none, it counts as the desk that holds in it
 
-pub one : (b : Bool) → bool_byte b ≡ (if b then 1 else 0)
-one true = refl
-one false = refl
-
-pub turn_held : (x : LentDesk) (b : Bool) → b ≡ is_holding x → b ≡ true → x.turn ≡ held_turn x
-turn_held x b e k = rw (sym e, k) refl
-
-pub turn_none : (x : LentDesk) (b : Bool) → b ≡ is_holding x → b ≡ false → no_turn ≡ held_turn x
-turn_none x b e k = rw (sym e, k) refl
-
--- a turn is below the number that stands for none, and so counts as the desks that hold in it
-pub held : (t : ℕ) → t < no_turn → (x : LentDesk) → is_turn t (held_turn x) ≡ held_in t (desk_of x)
+pub held : (t : ℕ) → t < no_turn → (x : LentDesk) → (if eqb (held_turn x) t then 1 else 0) ≡ held_in t (desk_of x)
 unfolding desk_of
 held t h =
-    let none : is_turn t no_turn ≡ 0 = ap (λ (b : Bool). if b then 1 else 0) (ne_eqb no_turn t (λ e. omega arith)) in
-    by_stage (λ x. is_turn t (held_turn x) ≡ held_in t (desk_of x)) (λ s. none) (λ s. none) (λ s. refl) (λ s. refl) (λ s n w. rw (w.first, w.second, w.third) none)
+    let none : (if eqb no_turn t then 1 else 0) ≡ 0 = ap (λ (b : Bool). if b then 1 else 0) (ne_eqb no_turn t (λ e. omega arith)) in
+    by_stage (λ x. (if eqb (held_turn x) t then 1 else 0) ≡ held_in t (desk_of x)) (λ s. none) (λ s. none) (λ s. refl) (λ s. refl) (λ s n w. rw (w.first, w.second, w.third) none)
 
 -- ---- two desks at one turn and place
 
@@ -123,21 +108,3 @@ free_of ys =
 
 pub free : (x : LentDesk) (ys : List LentDesk) (h : Bool) → h ≡ is_holding x → h ≡ false → clashes (desk_of x) ys ≡ false
 free x ys h e k = free_of ys x (sym e ∙ k)
-
--- ---- rule 3 of one desk, as the code asks it: `now` says that its turn is current, `holds` that it has claimed or fetched
-
-module _ (nb ne p : ℕ) (c : Block) where
-  abbrev ruled : LentDesk → Bool → Bool → Bool
-  ruled x now holds =
-      eqb x.stage 0
-      || (eqb x.stage 1 && (leb x.turn p && ltb x.place ne && (not now || ltb x.place c.written)))
-      || (holds && (now && ltb x.place c.claimed))
-
-  rule_of : (x : LentDesk) → ruled x (is_recent nb p x.turn) (is_holding x) ≡ (leb x.stage 3 && desk_obeys nb ne p c (desk_of x))
-  unfolding desk_of
-  rule_of =
-      by_stage (λ x. ruled x (is_recent nb p x.turn) (is_holding x) ≡ (leb x.stage 3 && desk_obeys nb ne p c (desk_of x))) (λ s. refl)
-      (λ s. sym (or_false (desk_obeys nb ne p c (looked s)))) (λ s. refl) (λ s. refl) (λ s n w. simp (w.zeroth, w.first, w.second, w.third, w.above))
-
-  pub desk_rule_lem : (x : LentDesk) (now holds : Bool) → now ≡ is_recent nb p x.turn → holds ≡ is_holding x → ruled x now holds ≡ (leb x.stage 3 && desk_obeys nb ne p c (desk_of x))
-  desk_rule_lem x now holds d e = ap₂ (ruled x) d e ∙ rule_of x

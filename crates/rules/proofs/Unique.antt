@@ -3,8 +3,8 @@ use mathlib.Core.Path.{◌≡◌, sym, ◌∙◌}
 use mathlib.Core.List.{List}
 use Prim.Native.Nat.{ℕ}
 use Rattle.line.specs.declared.Block.{Block}
-use Rattle.line.specs.declared.Checked.{Checked}
 use Rattle.line.specs.declared.Head.{Head}
+use Rattle.line.specs.Check.{Checked}
 use Rattle.rules.specs.Promises.{GivesCheck}
 
 pub check_unique : (h : Head) (t : List Block) (n m : ℕ) (r s : Checked) → GivesCheck h t n m r → GivesCheck h t n m s → r ≡ s

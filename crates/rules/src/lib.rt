@@ -11,53 +11,31 @@ mod head;
 
 ghost use Rattle.rules.specs.Promises.{GivesCheck};
 
-use blocks::{rule4, rule5, rule6, rule7};
-use desks::{held_turns, holders, rule3};
+use blocks::block_rules;
+use book::Size;
+use desks::held_turns;
 pub use head::fits;
-use head::{rule1, rule2};
-use line::{Block, Checked, Head};
-use ring::{current_block, current_turn};
+use head::head_rules;
+use line::{Block, Fault, Head};
+use ring::Ring;
 
-// The check of a head, of the table's first n records, and of m entries. Place 64 is the head.
-pub fn check(h: Head, table: [Block; 64], n: usize, m: usize) -> Checked
+// The check of a head, of the table's first n records, and of m entries.
+pub fn check(h: Head, table: [Block; 64], n: usize, m: usize) -> Result<(), Fault>
     ensures { GivesCheck h table n m result }
 {
-    let p = h.p;
-    let k = h.k;
-    if !fits(h.nb, h.ne, h.t, n, m) {
-        return Checked::Unfit;
+    let size = Size {
+        nb: h.nb,
+        ne: h.ne,
+        t: h.t,
+    };
+    if !fits(size, n, m) {
+        return Err(Fault::Unfit);
     }
-    let nb = h.nb as u32;
-    if !rule1(nb, p, k) {
-        return Checked::Broken(64, 1);
+    let ring = Ring::new(u32::from(h.nb), h.p);
+    head_rules(&h, &table, ring)?;
+    let turns = held_turns(&h.desks);
+    for (i, c) in table[..n].iter().enumerate() {
+        block_rules(ring, h.ne, &turns, i as u32, *c)?;
     }
-    let last = p % nb;
-    let at = current_block(nb, p, last, k);
-    if !rule2(table[at], h.reading) {
-        return Checked::Broken(64, 2);
-    }
-    if !rule3(h, table, last) {
-        return Checked::Broken(64, 3);
-    }
-    let desks = h.desks;
-    let turns = held_turns(desks);
-    for i in 0..n {
-        let c = table[i];
-        let b = i as u32;
-        let used = b <= p;
-        let turn = current_turn(nb, p, last, b);
-        if !rule4(used, c, nb, b, turn) {
-            return Checked::Broken(b, 4);
-        }
-        if !rule5(used, c, h.ne, p, turn) {
-            return Checked::Broken(b, 5);
-        }
-        if !rule6(used, c, turn) {
-            return Checked::Broken(b, 6);
-        }
-        if !rule7(used, c, holders(turns, turn)) {
-            return Checked::Broken(b, 7);
-        }
-    }
-    Checked::Sound
+    Ok(())
 }

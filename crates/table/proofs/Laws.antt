@@ -1,14 +1,9 @@
 -- Laws of records laid over others: one turn of a loop that lays them, its end, and what comes of a table that is
 -- loaded and stored again.
-use mathlib.Core.Path.{◌≡◌, refl, sym, ◌∙◌, ap}
-use mathlib.Core.Logic.{◌⊎◌, inl, inr}
-use Prim.Native.Nat.{ℕ, suc, ◌+◌, ◌<◌, ◌≤◌}
-use native.Mathlib.Nat.{not-suc-le-zero, le_of_suc-le-suc}
-use native.Mathlib.Numerals.{add-one}
-use native.Mathlib.Omega.{arith}
-use mathlib.Core.List.{List, [], ◌∷◌}
-use lib.ListN.{length, get_or, set, drop, take, replicate, drop_of_length-le}
-use lib.Seq.{drop-cons, set_out}
+use Rattle.std.proofs.Common.{◌≡◌, ℕ, suc, ◌+◌, ◌<◌, ◌≤◌, min, List, [], ◌∷◌, ◌++◌, length, get_or, set, drop, take, replicate, refl, sym, ap, ◌∙◌, inl, inr, arith, length-set, add-one, not-suc-le-zero, le_of_suc-le-suc, drop_of_length-le, drop-cons}
+use Rattle.std.proofs.Math.Seq.{set_out}
+use Rattle.std.proofs.lemmas.Bool.{cases_lt}
+use Rattle.std.proofs.lemmas.List.{set-append_left}
 use Rattle.line.specs.declared.Block.{Block}
 use Rattle.line.specs.Line.{unused}
 use Rattle.table.specs.Laid.{laid, loaded, stored}
@@ -24,10 +19,20 @@ pub laid_next : (xs : List Block) (i : ℕ) (t : List Block) → i < length xs
 laid_next xs i t h =
     ap (λ (k : ℕ). laid (drop k xs) k (set t i (get_or xs i unused))) (add-one i) ∙ ap (λ (l : List Block). laid l i t) (sym (drop-cons xs i unused h))
 
+-- the same turn in the first records of a table, with the others behind them
+pub laid_next_before : (xs t blank : List Block) (i : ℕ) → i < length xs → i < length t
+    → let more = set t i (get_or xs i unused) in
+    laid (drop (i + 1) xs) (i + 1) (more ++ drop (length more) blank) ≡ laid (drop i xs) i (t ++ drop (length t) blank)
+laid_next_before xs t blank i h k =
+    rw (length-set, ← (set-append_left t (drop (length t) blank) i (get_or xs i unused) k)) (laid_next xs i (t ++ drop (length t) blank) h)
+
 -- nothing is left to lay once all records are laid, or the table is full
-pub laid_done : (xs : List Block) (n : ℕ) (t : List Block) → (n ≡ length xs) ⊎ (n ≡ length t) → laid (drop n xs) n t ≡ t
-laid_done xs n t (inl e) = ap (λ (l : List Block). laid l n t) (drop_of_length-le xs {i = n} (omega (arith, e)))
-laid_done xs n t (inr e) = laid_past (drop n xs) n t (omega (arith, e))
+pub laid_done : (xs : List Block) (n : ℕ) (t : List Block) → min (length xs) (length t) ≤ n → laid (drop n xs) n t ≡ t
+laid_done xs n t h =
+    elim (cases_lt n (length xs)) [
+      | inl more ↦ laid_past (drop n xs) n t (omega (arith, h, more))
+      | inr all ↦ ap (λ (l : List Block). laid l n t) (drop_of_length-le xs {i = n} all)
+    ]
 
 -- ---- loaded and stored again
 laid_under : (xs : List Block) (i : ℕ) (y : Block) (t : List Block) → laid xs (suc i) (y ∷ t) ≡ y ∷ laid xs i t

@@ -3,7 +3,7 @@
 // The block table, as the portal lends it: a slice of records in block order. `count`, `record_at` and `replace` are
 // the thin functions that read or replace a record; `load` and `store` go over the table with them, between the lent
 // slice and the table of 64 records that the engine takes by value.
-ghost use Rattle.std.specs.Prelude.{◌≡◌, ◌⊎◌, ◌<◌, ◌+◌, ◌≤◌, length, set, get_or};
+ghost use Rattle.std.specs.Prelude.{◌≡◌, ◌<◌, length, set, get_or};
 ghost use Rattle.line.specs.Line.{unused};
 ghost use Rattle.table.specs.Laid.{loaded, stored};
 
@@ -33,23 +33,13 @@ fn replace(table: &mut [Block], i: usize, b: Block)
     table[i] = b;
 }
 
-// How many records a table of 64 has room for.
-fn at_most_64(n: usize) -> usize
-    ensures { (result ≤ n) × (result ≤ 64) × ((result ≡ n) ⊎ (result ≡ 64)) }
-{
-    if n < 64 { n } else { 64 }
-}
-
 // The lent records, in a table of 64, with records of unused blocks behind them. Those past 64 are left out.
 pub fn load(table: &[Block]) -> [Block; 64]
     ensures { result ≡ loaded table.now }
 {
     let mut t = no_table();
-    let n = at_most_64(table.len());
-    let mut i = 0;
-    while i < n {
-        t[i] = record_at(table, i);
-        i = i + 1;
+    for (i, room) in t[..table.len().min(64)].iter_mut().enumerate() {
+        *room = record_at(table, i);
     }
     t
 }
@@ -58,10 +48,7 @@ pub fn load(table: &[Block]) -> [Block; 64]
 pub fn store(table: &mut [Block], t: [Block; 64])
     ensures { table.new ≡ stored table.old t }
 {
-    let n = at_most_64(table.len());
-    let mut i = 0;
-    while i < n {
-        replace(table, i, t[i]);
-        i = i + 1;
+    for (i, b) in t[..table.len().min(64)].iter().enumerate() {
+        replace(table, i, *b);
     }
 }

@@ -1,11 +1,7 @@
 -- What holds of the answers as a whole.
-use mathlib.Core.Path.{◌≡◌, refl, sym, ◌∙◌}
-use mathlib.Core.Bool.{Bool, true, not, ◌&&◌}
-use mathlib.Core.List.{List, [], ◌∷◌, ◌++◌, map}
-use Prim.Native.Nat.{ℕ}
+use Rattle.std.proofs.Common.{◌≡◌, refl, sym, ◌∙◌, Bool, true, not, ◌&&◌, List, [], ◌∷◌, ◌++◌, map, ℕ, length, replicate}
 use Prim.Native.String.{String}
 use lib.Dec.{leb}
-use lib.ListN.{length, replicate}
 use lib.Text.{eqt}
 use Rattle.words.specs.Words.{Refusal, Answer, Refused, said, letters}
 use Rattle.words.specs.Spelling.{answers, words, Spelling}

@@ -12,5 +12,5 @@ returns-then-no_block c = rw (same_block (sized c.args.nb 0 1) c.args.s ∙ sym 
 pub returns : goal.returns
 unfolding admitted
 returns c =
-    rw (same_block (sized c.args.nb 0 1) c.args.s ∙ sym c.if-no_block.ensures, stage_of c.args.x c.requires, ← c.column_of-column.ensures.0)
-    c.at_stage.ensures
+    rw (same_block (sized c.args.nb 0 1) c.args.s ∙ sym c.if-no_block.ensures, stage_of c.args.x c.requires, ← c.column_of.ensures.0)
+    (rw c.from.ensures at c.at_stage.ensures)

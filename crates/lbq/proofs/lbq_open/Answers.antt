@@ -6,8 +6,8 @@ use Rattle.lbq.proofs.lbq_open.Goals as goal
 
 pub returns : goal.returns
 returns c =
-    rw c.of_opening.ensures
+    rw c.from.ensures
     (opened (lent c.args.head.now c.args.table.now c.args.entries.now)
     (lent c.open-opening.new.head c.open-opening.new.table c.open-opening.new.entries)
     c.open-opening.result (the_size c.args.nb c.args.ne c.args.t)
-    (rw (c.size-b.ensures, c.size-e.ensures, c.size-d.ensures) at c.open-opening.ensures))
+    (rw (c.size.ensures, c.size-2.ensures, c.size-3.ensures) at c.open-opening.ensures))

@@ -6,8 +6,8 @@ use Rattle.lbq.proofs.lbq_step.Goals as goal
 
 pub returns : goal.returns
 returns c =
-    rw c.of_answer.ensures
+    rw c.from.ensures
     (stepped (lent c.args.head.now c.args.table.now c.args.entries.now)
     (lent c.step-answer.new.head c.step-answer.new.table c.step-answer.new.entries)
     c.step-answer.result c.args.code c.args.a c.args.b
-    (rw c.code-c.ensures at c.step-answer.ensures))
+    (rw c.code.ensures at c.step-answer.ensures))

@@ -1,33 +1,48 @@
-use Rattle.std.proofs.Common.{sym, arith}
-use Rattle.byvalue.proofs.Ready.{blocks, block_below, stands}
+use Rattle.std.proofs.Common.{◌<◌, ◌≤◌, sym, arith}
+use Rattle.std.proofs.lemmas.Bool.{ltb-true}
+use Rattle.byvalue.proofs.Ready.{sizes, blocks, block_below, stands}
 use Rattle.owner.proofs.Gets.{begins, onward, moved, empty, got, place_below}
 use Rattle.owner.proofs.get.Goals as goal
+use Rattle.owner.proofs.get.Goals.{After-from-place}
 
 pub block_of-here-requires : goal.block_of-here-requires
-block_of-here-requires c = blocks _ _ _ c.requires
+block_of-here-requires c = rw c.from-nb.ensures (blocks _ _ _ c.requires)
 
-pub loop-place-init : goal.loop-place-init
-loop-place-init c = begins _ _ _ c.requires _ c.block_of-here.ensures.0
+pub loop-current-init : goal.loop-current-init
+loop-current-init c = begins _ _ _ c.requires _ (rw c.from-nb.ensures at c.block_of-here.ensures.0)
 
 pub block_after-here-requires : goal.block_after-here-requires
-block_after-here-requires c = let s = c.loop-place.invariant in block_below _ _ _ s.ready _ _ s.block
+block_after-here-requires c =
+    let s = c.loop-current.invariant in
+    rw c.from-nb.ensures (block_below _ _ _ s.ready _ _ s.block)
 
-pub loop-place-smaller : goal.loop-place-smaller
-loop-place-smaller c = omega (arith, onward _ _ _ c.loop-place.invariant (sym c.loop-place-test.ensures))
+pub loop-current-smaller : goal.loop-current-smaller
+loop-current-smaller c = omega (arith, onward _ _ _ c.loop-current.invariant (sym c.loop-current-test.ensures))
 
-pub loop-place-preserved : goal.loop-place-preserved
-loop-place-preserved c =
-    moved _ _ _ c.loop-place.invariant (sym c.loop-place-test.ensures) _ c.block_after-here.ensures.0
+pub loop-current-preserved : goal.loop-current-preserved
+loop-current-preserved c =
+    moved _ _ _ c.loop-current.invariant (sym c.loop-current-test.ensures) _ (rw c.from-nb.ensures at c.block_after-here.ensures.0)
 
-pub returns-then-current-place : goal.returns-then-current-place
-returns-then-current-place c =
-    empty _ _ _ c.loop-place.invariant (sym c.loop-place-test.ensures) c.if-current-place.true
+pub returns-then-not-is_written : goal.returns-then-not-is_written
+returns-then-not-is_written c =
+    rw c.refused.ensures (empty _ _ _ c.loop-current.invariant (sym c.loop-current-test.ensures) (sym c.if-not-is_written.ensures))
+
+-- the reading place is below NE, where a label stands at it
+below : (c : After-from-place) → (c.loop-current.head.reading < c.args.h.ne) × (c.args.h.ne ≤ 64)
+below c =
+    let s = c.loop-current.invariant in
+    (place_below _ _ _ s (ltb-true _ _ (sym c.if-not-is_written.ensures)), (sizes _ _ _ s.ready).ne_most)
 
 pub read_label-label-requires : goal.read_label-label-requires
 read_label-label-requires c =
-    let s = c.loop-place.invariant in
-    stands _ _ _ s.ready _ _ s.block _ (place_below _ _ _ s c.if-current-place.false)
+    let s = c.loop-current.invariant in
+    rw (c.from-ne.ensures, c.from-place.ensures)
+    (stands _ _ _ s.ready _ _ s.block _ (below (goal.at.read_label-label-requires c).After-from-place).0)
+
+pub overflow_add-head-2 : goal.overflow_add-head-2
+overflow_add-head-2 c = omega (arith, below (goal.at.overflow_add-head-2 c).After-from-place)
 
 pub returns : goal.returns
 returns c =
-    got _ _ _ c.loop-place.invariant (sym c.loop-place-test.ensures) _ c.if-current-place.false c.read_label-label.ensures
+    got _ _ _ c.loop-current.invariant (sym c.loop-current-test.ensures) _ (sym c.if-not-is_written.ensures)
+    (rw (c.from-ne.ensures, c.from-place.ensures) at c.read_label-label.ensures)

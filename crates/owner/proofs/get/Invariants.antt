@@ -1,10 +1,10 @@
--- A get has come to `place` of turn `k`. The measure is how far that is from P.
+-- A get has come to the reading place of turn K of `head`. The measure is how far that is from P.
 use Rattle.std.proofs.Common.{◌-◌}
 use Rattle.owner.proofs.Gets.{Come}
 use Rattle.owner.proofs.get.Given as goal
 
-abbrev pub invariant-loop-place : goal.invariant-loop-place
-invariant-loop-place l = Come l.h l.table l.entries l.k l.place l.here l.current
+abbrev pub invariant-loop-current : goal.invariant-loop-current
+invariant-loop-current l = Come l.fn.h l.table l.entries l.head l.here l.current
 
-abbrev pub decreases-loop-place : goal.decreases-loop-place
-decreases-loop-place l = l.p - l.k
+abbrev pub decreases-loop-current : goal.decreases-loop-current
+decreases-loop-current l = l.fn.h.p - l.head.k

@@ -5,4 +5,4 @@ use Rattle.portal.proofs.check.Goals as goal
 pub returns : goal.returns
 returns c =
     checked c.args.head.now c.args.table.now c.args.entries.now c.check.result
-    (rw c.load-records.ensures at c.check.ensures)
+    (rw c.load.ensures at c.check.ensures)

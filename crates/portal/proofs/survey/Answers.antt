@@ -5,4 +5,4 @@ use Rattle.portal.proofs.survey.Goals as goal
 pub returns : goal.returns
 returns c =
     surveyed c.args.head.now c.args.table.now c.args.entries.now c.survey.result
-    (rw c.load-records.ensures at c.survey.ensures)
+    (rw c.load.ensures at c.survey.ensures)

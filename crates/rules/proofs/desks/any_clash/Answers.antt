@@ -7,24 +7,32 @@ use Rattle.rules.proofs.desks.any_clash.Goals as goal
 -- desk i holds nothing
 pub pairs-preserved-then-not-is_holding : goal.pairs-preserved-then-not-is_holding
 pairs-preserved-then-not-is_holding c =
-    let ds = c.args.desks in let i = c.pairs.i in let v = c.pairs.invariant in
-    (v.0, v.1, v.2 ∙ desk_past ds i (omega arith) (free (at ds i) (drop (i + 1) ds) _ c.is_holding.ensures c.if-not-is_holding.true))
+    let ds = c.args.desks.now in let i = c.pairs.i in let v = c.pairs.invariant in record {
+      none = v.none;
+      rest = v.rest ∙ desk_past ds i (omega arith) (free (at ds i) (drop (i + 1) ds) _ c.is_holding.ensures c.if-not-is_holding.true);
+    }
 
-pub loop-j-preserved : goal.loop-j-preserved
-loop-j-preserved c =
-    let ds = c.args.desks in let v = c.loop-j.invariant in
-    (v.0, v.1 ∙ pair_past ds (desk_of (at ds c.pairs.i)) c.loop-j.j (omega arith) (sym c.clash.ensures ∙ c.if-clash.false))
+pub loop-b-preserved : goal.loop-b-preserved
+loop-b-preserved c =
+    let v = c.loop-b.invariant in record {
+      none = v.none;
+      items = v.items;
+      rest = v.rest ∙ pair_past _ (desk_of (at c.args.desks.now c.pairs.i)) c.loop-b.b-index c.loop-b-test.true (sym c.clash.ensures ∙ c.if-clash.false);
+    }
 
 -- desk i clashes with none
 pub pairs-preserved : goal.pairs-preserved
 pairs-preserved c =
-    let ds = c.args.desks in let i = c.pairs.i in let v = c.pairs.invariant in let w = c.loop-j.invariant in
-    (v.0, w.0, v.2 ∙ desk_past ds i (omega arith) (w.1 ∙ pair_end ds (desk_of (at ds i)) c.loop-j.j (omega arith)))
+    let ds = c.args.desks.now in let i = c.pairs.i in let v = c.pairs.invariant in let w = c.loop-b.invariant in record {
+      none = w.none;
+      rest = v.rest ∙ desk_past ds i (omega arith) (rw (← w.items) (w.rest ∙ pair_end _ (desk_of (at ds i)) c.loop-b.b-index c.loop-b-test.false));
+    }
 
 pub returns-after-pairs : goal.returns-after-pairs
-returns-after-pairs c = c.pairs.invariant.2 ∙ desk_end c.args.desks c.pairs.i (omega arith) ∙ ap not (sym c.pairs.invariant.1)
+returns-after-pairs c = let v = c.pairs.invariant in v.rest ∙ desk_end c.args.desks.now c.pairs.i (omega arith) ∙ ap not (sym v.none)
 
 pub returns-then-clash : goal.returns-then-clash
 returns-then-clash c =
-    let ds = c.args.desks in let i = c.pairs.i in
-    c.pairs.invariant.2 ∙ desk_here ds i (omega arith) (c.loop-j.invariant.1 ∙ pair_here ds (desk_of (at ds i)) c.loop-j.j (omega arith) (sym c.clash.ensures ∙ c.if-clash.true))
+    let ds = c.args.desks.now in let i = c.pairs.i in let w = c.loop-b.invariant in
+    c.pairs.invariant.rest
+    ∙ desk_here ds i (omega arith) (rw (← w.items) (w.rest ∙ pair_here _ (desk_of (at ds i)) c.loop-b.b-index c.loop-b-test.true (sym c.clash.ensures ∙ c.if-clash.true)))

@@ -1,15 +1,16 @@
-use Rattle.std.proofs.Common.{ℕ, List, ap₂, ◌∙◌, arith}
-use Rattle.std.proofs.Math.ListN.{set, length-set}
+-- Each call of `map` gave the turn of the desk at its place.
+use Rattle.std.proofs.Common.{◌≡◌, get_or, map, sym, ◌∙◌, arith, rules, tests}
+use Rattle.std.proofs.lemmas.List.{same_lists, get_or-map, length-map}
 use Rattle.book.specs.Steps.{idle}
 use Rattle.line.specs.Line.{numbers_of}
 use Rattle.rules.specs.Holders.{held_turn}
-use Rattle.rules.proofs.Walks.{map_more}
 use Rattle.rules.proofs.desks.held_turns.Goals as goal
 
-pub loop-d-preserved : goal.loop-d-preserved
-loop-d-preserved c =
-    let l = c.loop-d in let v = l.invariant in (
-      v.0,
-      ap₂ (λ (ts : List ℕ) (t : ℕ). set ts l.d t) v.1 c.held_turn.ensures ∙ map_more held_turn (numbers_of idle) l.d c.args.desks _ (omega arith) (omega arith),
-      length-set l.turns l.d c.held_turn.result ∙ v.2,
-    )
+pub returns : goal.returns
+returns c =
+    let desks = c.args.desks.now in let made = c.map.ensures.items in
+    same_lists c.map.result (map held_turn desks) (omega (arith, made.long, length-map desks held_turn))
+    (λ k d h.
+    let call = made.at k (numbers_of idle) d (omega (arith, made.long)) in
+    let e : get_or c.map.result k d ≡ held_turn (get_or desks k (numbers_of idle)) = search (rules, tests) in
+    e ∙ sym (get_or-map held_turn desks k (numbers_of idle) d (omega (arith, made.long))))

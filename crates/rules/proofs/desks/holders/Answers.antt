@@ -1,16 +1,13 @@
-use Rattle.std.proofs.Common.{◌≤◌, eqb, get_or, arith}
-use Rattle.line.proofs.Survey.{bit_le}
-use Rattle.rules.specs.Holders.{is_turn}
-use Rattle.rules.proofs.Walks.{count_more, count_end}
+-- At most one counts for each turn.
+use Rattle.std.proofs.Common.{ℕ, eqb, if◌then◌else◌, arith, rules, tests}
+use Rattle.std.proofs.lemmas.Iterator.{YieldsList-from_map, YieldsList-from_slice}
+use Rattle.std.proofs.lemmas.Iterator.Consumers.{YieldsList-at, fits_by_from_yields_list}
+use Rattle.std.proofs.lemmas.List.Sums.{count_by-le-length}
 use Rattle.rules.proofs.desks.holders.Goals as goal
 
-pub loop-d-preserved : goal.loop-d-preserved
-loop-d-preserved c =
-    let l = c.loop-d in let a = c.args in let v = l.invariant in let r = c.is_turn-count in
-    let one : r.result ≤ 1 = rw r.ensures (bit_le (eqb (get_or a.turns l.d 0) a.turn)) in
-    (v.0, omega (arith, one), count_more 0 a.turns (is_turn a.turn) l.count l.d r.result (omega arith) r.ensures v.2)
-
-pub returns : goal.returns
-returns c =
-    let l = c.loop-d in let a = c.args in
-    omega (arith, l.invariant.2, count_end 0 a.turns (is_turn a.turn) l.d (omega arith))
+pub sum-requires-clause-fits : goal.sum-requires-clause-fits
+sum-requires-clause-fits c =
+    let turns = c.args.turns.now in let one : ℕ → ℕ = λ x. if eqb x c.args.turn then 1 else 0 in
+    fits_by_from_yields_list one turns c.map.result _
+    (YieldsList-from_map _ one (YieldsList-at c.map.ensures.source (YieldsList-from_slice turns cc)) c.map.ensures.closure (λ x r q k. search (rules, tests)))
+    (omega (arith, count_by-le-length (λ x. eqb x c.args.turn) turns))

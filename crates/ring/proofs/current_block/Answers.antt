@@ -1,6 +1,0 @@
--- The turn is P - turn before P, and its block as many back from P's.
-use Rattle.ring.proofs.Backward.{block_at}
-use Rattle.ring.proofs.current_block.Goals as goal
-
-pub returns-then-is_current : goal.returns-then-is_current
-returns-then-is_current c = block_at _ _ _ _ c.is_current.ensures _ _ c.requires c.if-is_current.true c.back.ensures
