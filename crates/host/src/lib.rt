@@ -7,7 +7,8 @@ use std::io;
 use std::io::Read;
 
 // Reads until the room is full or the input ends, and answers how many bytes now stand at its front. For an empty room
-// nothing is read.
+// nothing is read. No method of std does it: to `read_exact` the input's end is an error, and `read_to_end` asks for
+// memory, where the house has fixed rooms.
 pub fn read_full<R: Read>(input: &mut R, room: &mut [u8]) -> io::Result<usize>
     ensures { ReadsAtMost result room.new }
 {

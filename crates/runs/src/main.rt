@@ -14,6 +14,8 @@ use std::io;
 // Room for all shelves, in bytes. Where they fill it the last may be cut short, and that is said.
 const ROOM: usize = 1048576;
 
+// Made apart, by the law of its length: where the array stands in `main` itself, the check takes a step for each byte of
+// it, and stops at its limit.
 fn room() -> [u8; ROOM]
     ensures { 1048576 ≡ length result }
 {

@@ -2,24 +2,27 @@
 // the schedule's length in four bytes, high byte first, and its bytes. Its name is printed after a `#`,
 // and then what playing it prints. A name that begins with a `#` is a section's, and no schedule's: it is
 // printed after another `#`, and nothing is played. What is cut short at the end is not played.
-ghost use Rattle.std.specs.Prelude.{◌≤◌, ◌<◌, IfOk, length};
+ghost use Rattle.std.specs.Prelude.{◌≤◌, ◌<◌, IfOk, IfSome, length};
 
-use schedule::reading::number_at;
 use std::io;
 
-// Where the line of text that starts at `at` ends.
-fn line_end(shelf: &[u8], at: usize) -> usize
-    requires { at ≤ length shelf.now }
-    ensures { (at ≤ result) × (result ≤ length shelf.now) }
+// The first line of text, and what stands behind it.
+fn split_line(shelf: &[u8]) -> (&[u8], &[u8])
+    requires { 0 < length shelf.now }
+    ensures { length result.1.now < length shelf.now }
 {
-    let mut i = at;
-    while i < shelf.len() {
-        if shelf[i] == b'\n' {
-            return i;
-        }
-        i = i + 1;
+    match shelf.iter().position(|b| *b == b'\n') {
+        Some(end) => (&shelf[..end], &shelf[end + 1..]),
+        None => (shelf, &[]),
     }
-    i
+}
+
+// A schedule with its length before it, and what stands behind it. Of one that is cut short there is none.
+fn split_schedule(shelf: &[u8]) -> Option<(&[u8], &[u8])>
+    ensures { IfSome result (λ parts. length parts.1.now ≤ length shelf.now) }
+{
+    let (size, behind) = shelf.split_first_chunk::<4>()?;
+    behind.split_at_checked(u32::from_be_bytes(*size) as usize)
 }
 
 fn print_name(rt: &impl Print, name: &[u8], is_section: bool) -> io::Result<()> {
@@ -38,33 +41,27 @@ fn print(rt: &impl Print, schedule: &[u8]) -> io::Result<()> {
     rt.write_all(&out[..r])
 }
 
-// Plays the schedule that starts at `at`, and answers where the next one does.
-fn play_one(rt: &impl Print, shelf: &[u8], at: usize) -> io::Result<usize>
-    requires { at < length shelf.now }
-    ensures { IfOk result (λ next. (at < next) × (next ≤ length shelf.now)) }
+// Plays the first schedule of a shelf, and answers what stands behind it: nothing, where it is cut short.
+fn play_one<'a>(rt: &impl Print, shelf: &'a [u8]) -> io::Result<&'a [u8]>
+    requires { 0 < length shelf.now }
+    ensures { IfOk result (λ rest. length rest.now < length shelf.now) }
 {
-    let end = line_end(shelf, at);
-    let is_section = shelf[at] == b'#';
-    print_name(rt, &shelf[at..end], is_section)?;
-    if shelf.len() - end < 5 {
-        return Ok(shelf.len());
-    }
-    let size = number_at(shelf, end + 1) as usize;
-    let from = end + 5;
-    if shelf.len() - from < size {
-        return Ok(shelf.len());
-    }
-    let to = from + size;
+    let (name, behind) = split_line(shelf);
+    let is_section = name.starts_with(b"#");
+    print_name(rt, name, is_section)?;
+    let Some((schedule, rest)) = split_schedule(behind) else {
+        return Ok(&[]);
+    };
     if !is_section {
-        print(rt, &shelf[from..to])?;
+        print(rt, schedule)?;
     }
-    Ok(to)
+    Ok(rest)
 }
 
 pub fn play_all(rt: &impl Print, shelf: &[u8]) -> io::Result<()> {
-    let mut at = 0;
-    while at < shelf.len() {
-        at = play_one(rt, shelf, at)?;
+    let mut rest = shelf;
+    while !rest.is_empty() {
+        rest = play_one(rt, rest)?;
     }
     Ok(())
 }

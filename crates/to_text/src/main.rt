@@ -3,7 +3,6 @@
 // The text of the schedule whose bytes are on standard input, on standard output. Of a schedule that the player refuses
 // the player's line is told on standard error, and nothing is written on standard output.
 use host::read_full;
-use shown::Shown;
 use std::io;
 
 // Room for one byte more than the longest schedule has, so that a longer one is seen to be.
@@ -13,11 +12,8 @@ fn main(rt: HostRuntime) -> io::Result<()> {
     let mut input = [0u8; SCHEDULE];
     let n = read_full(&mut rt.stdin(), &mut input)?;
     let mut out = [0u8; shown::ROOM];
-    let answer = shown::text_of(&input[..n], &mut out);
-    match answer {
-        Shown::Text(r) => rt.write_all(&out[..r]),
-        Shown::Long => rt.stderr().write_all(b"0 LONG 0\n"),
-        Shown::Header => rt.stderr().write_all(b"0 HEADER 0\n"),
-        Shown::Unfit => rt.stderr().write_all(b"0 UNFIT 0\n"),
+    match shown::text_of(&input[..n], &mut out) {
+        Ok(len) => rt.write_all(&out[..len]),
+        Err(why) => eprintln!(rt; "0 {why} 0"),
     }
 }
