@@ -80,54 +80,62 @@ module _ (h : Head) (t : List Block) (es : List ℕ) where
     more = (let n : h.nb - 1 - (h.k - h.k) ≡ h.nb - 1 = omega arith in rw n);
   }
 
-  module _ {g : Head} {i : ℕ} {b : Block} (s : Come g i b) where
-    few : h.nb ≤ 64
-    few = (blocks h t es s.ready).1
+-- ---- on the way
 
-    -- does a get move on, by the head and the record that the code reads
-    abbrev pub moves : Bool
-    moves = moves_on (size_of g) g.p b (at g.k g.reading)
+module _ {h : Head} {t : List Block} {es : List ℕ} {g : Head} {i : ℕ} {b : Block} (s : Come h t es g i b) where
+  abbrev size : Size
+  size = size_of h
 
-    same_moves : moves ≡ moves_on z h.p (record_of z l.table g.k) (at g.k g.reading)
-    same_moves =
-        ap (λ (x : Head). moves_on (size_of x) x.p b (at g.k g.reading)) s.head ∙ ap (λ (c : Block). moves_on z h.p c (at g.k g.reading)) s.here
+  abbrev lent : Line
+  lent = line_of h t h.nb es
 
-    module _ (e : moves ≡ true) where
-      on : moves_on z h.p (record_of z l.table g.k) (at g.k g.reading) ≡ true
-      on = sym same_moves ∙ e
+  few : h.nb ≤ 64
+  few = (blocks h t es s.ready).1
 
-      pub onward : g.k < h.p
-      onward = moves_below z h.p (record_of z l.table g.k) (at g.k g.reading) on
+  -- does a get move on, by the head and the record that the code reads
+  abbrev pub moves : Bool
+  moves = moves_on (size_of g) g.p b (at g.k g.reading)
 
-      pub moved : (j : ℕ) → j ≡ (i + 1) % h.nb → (let c = get_or t j unused in Come (get_at g (at (g.k + 1) c.claimed)) j c)
-      moved j f =
-          let r = s.ready in
-          let at_j = next_block h.nb g.k i j s.block f in
-          let c : get_or t j unused ≡ record_of z l.table (g.k + 1) = record_at_lem h t es r (g.k + 1) j at_j in
-          record {
-            ready = r;
-            head = ap (λ (x : Head). get_at x (at (g.k + 1) (get_or t j unused).claimed)) s.head;
-            from = omega (arith, s.from);
-            to = omega (arith, onward);
-            block = at_j;
-            here = c;
-            more = rw (c, add-one) (s.more ∙ ap (read_at z l) (rw (one_less h.nb h.p h.k g.k r.sound.one.near s.from onward) (reach_on z l.table h.p (at g.k g.reading) _ on)));
-          }
+  same_moves : moves ≡ moves_on size h.p (record_of size lent.table g.k) (at g.k g.reading)
+  same_moves =
+      ap (λ (x : Head). moves_on (size_of x) x.p b (at g.k g.reading)) s.head ∙ ap (λ (c : Block). moves_on size h.p c (at g.k g.reading)) s.here
 
-    module _ (e : moves ≡ false) where
-      stopped : get_step z l ≡ read_at z l (at g.k g.reading)
-      stopped = s.more ∙ ap (read_at z l) (reach_stays z l.table h.p (at g.k g.reading) (h.nb - 1 - (g.k - h.k)) (sym same_moves ∙ e))
+  module _ (e : moves ≡ true) where
+    on : moves_on size h.p (record_of size lent.table g.k) (at g.k g.reading) ≡ true
+    on = sym same_moves ∙ e
 
-      pub empty : g.reading <ᵇ b.written ≡ false → given (Refused Empty 0) g t es ≡ back_of t h.nb (get_step z l)
-      unfolding read_at
-      empty w = rw s.head (rw (stopped, ← s.here, w) (refused (get_at h (at g.k g.reading)) t h.nb es Empty))
+    pub onward : g.k < h.p
+    onward = moves_below size h.p (record_of size lent.table g.k) (at g.k g.reading) on
 
-      pub got : (label : ℕ) → g.reading <ᵇ b.written ≡ true → label ≡ get_or es (i * h.ne + g.reading) 0
-          → given (Got label) (get_at g (at g.k (g.reading + 1))) t es ≡ back_of t h.nb (get_step z l)
-      unfolding read_at label_at entry_of
-      got label w f =
-          ap (λ (x : Head). given (Got label) (get_at x (at g.k (g.reading + 1))) t es) s.head
-          ∙ rw (stopped, ← s.here, w, add-one, f, s.block) (back_lent h.nb few t t (get_at h (at g.k (suc g.reading))) es (Got (label_at z es (at g.k g.reading))) refl)
+    pub moved : (j : ℕ) → j ≡ (i + 1) % h.nb → (let c = get_or t j unused in Come h t es (get_at g (at (g.k + 1) c.claimed)) j c)
+    moved j f =
+        let r = s.ready in
+        let at_j = next_block h.nb g.k i j s.block f in
+        let c : get_or t j unused ≡ record_of size lent.table (g.k + 1) = record_at_lem h t es r (g.k + 1) j at_j in
+        record {
+          ready = r;
+          head = ap (λ (x : Head). get_at x (at (g.k + 1) (get_or t j unused).claimed)) s.head;
+          from = omega (arith, s.from);
+          to = omega (arith, onward);
+          block = at_j;
+          here = c;
+          more = rw (c, add-one) (s.more ∙ ap (read_at size lent) (rw (one_less h.nb h.p h.k g.k r.sound.one.near s.from onward) (reach_on size lent.table h.p (at g.k g.reading) _ on)));
+        }
 
-    pub place_below : g.reading < b.written → g.reading < h.ne
-    place_below w = omega (arith, (cell_at s.ready g.k s.from s.to).fits, ap (λ (c : Block). c.written) s.here)
+  module _ (e : moves ≡ false) where
+    stopped : get_step size lent ≡ read_at size lent (at g.k g.reading)
+    stopped = s.more ∙ ap (read_at size lent) (reach_stays size lent.table h.p (at g.k g.reading) (h.nb - 1 - (g.k - h.k)) (sym same_moves ∙ e))
+
+    pub empty : g.reading <ᵇ b.written ≡ false → given (Refused Empty 0) g t es ≡ back_of t h.nb (get_step size lent)
+    unfolding read_at
+    empty w = rw s.head (rw (stopped, ← s.here, w) (refused (get_at h (at g.k g.reading)) t h.nb es Empty))
+
+    pub got : (label : ℕ) → g.reading <ᵇ b.written ≡ true → label ≡ get_or es (i * h.ne + g.reading) 0
+        → given (Got label) (get_at g (at g.k (g.reading + 1))) t es ≡ back_of t h.nb (get_step size lent)
+    unfolding read_at label_at entry_of
+    got label w f =
+        ap (λ (x : Head). given (Got label) (get_at x (at g.k (g.reading + 1))) t es) s.head
+        ∙ rw (stopped, ← s.here, w, add-one, f, s.block) (back_lent h.nb few t t (get_at h (at g.k (suc g.reading))) es (Got (label_at size es (at g.k g.reading))) refl)
+
+  pub place_below : g.reading < b.written → g.reading < h.ne
+  place_below w = omega (arith, (cell_at h t es s.ready g.k s.from s.to).fits, ap (λ (c : Block). c.written) s.here)

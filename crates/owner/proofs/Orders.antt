@@ -62,42 +62,44 @@ module _ (h : Head) (t₀ : List Block) (es₀ : List ℕ) (a b : ℕ) where
         more = begins e;
       }
 
-  module _ {g : Head} {t : List Block} {es : List ℕ} {i label : ℕ} (s : Placed g t es i label) where
-    same_nb : g.nb ≡ h.nb
-    same_nb = ap (λ (y : Size). y.nb) s.same
+-- ---- on the way
 
-    pub same_ne : g.ne ≡ h.ne
-    same_ne = ap (λ (y : Size). y.ne) s.same
+module _ {h : Head} {t₀ : List Block} {es₀ : List ℕ} {a b : ℕ} {g : Head} {t : List Block} {es : List ℕ} {i label : ℕ} (s : Placed h t₀ es₀ a b g t es i label) where
+  same_nb : g.nb ≡ h.nb
+  same_nb = ap (λ (y : Size). y.nb) s.same
 
-    -- what is given back with answer r, where that is the order's outcome
-    back : (r : Answer) → out ≡ says (line_of g t g.nb es) r → given r g t es ≡ back_of t₀ h.nb out
-    back r e = rw (e, ← same_nb) (back_lent g.nb (blocks g t es s.reads.ready).1 t₀ t g es r s.others)
+  pub same_ne : g.ne ≡ h.ne
+  same_ne = ap (λ (y : Size). y.ne) s.same
 
-    pub whole : b < label → given (Whole (b - a + 1)) g t es ≡ back_of t₀ h.nb out
-    unfolding put_many
-    whole k =
-        let none : suc b - label ≡ 0 = omega arith in
-        let count : b - a + 1 ≡ label - a = let r = s.range in let u = s.to in omega arith in
-        back (Whole (b - a + 1)) (rw (s.more, none, count))
+  -- what is given back with answer r, where that is the order's outcome
+  back : (r : Answer) → out h t₀ es₀ a b ≡ says (line_of g t g.nb es) r → given r g t es ≡ back_of t₀ h.nb (out h t₀ es₀ a b)
+  back r e = rw (e, ← same_nb) (back_lent g.nb (blocks g t es s.reads.ready).1 t₀ t g es r s.others)
 
-    module _ (k : label ≤ b) where
-      up : suc b - label ≡ suc (b - label)
-      up = omega arith
+  pub whole : b < label → given (Whole (b - a + 1)) g t es ≡ back_of t₀ h.nb (out h t₀ es₀ a b)
+  unfolding put_many
+  whole k =
+      let none : suc b - label ≡ 0 = omega arith in
+      let count : b - a + 1 ≡ label - a = let r = s.range in let u = s.to in omega arith in
+      back (Whole (b - a + 1)) (rw (s.more, none, count))
 
-      pub stopped : (w : Refusal) → verdict s.reads label ≡ refuses w → given (Refused w (label - a)) g t es ≡ back_of t₀ h.nb out
-      stopped w e = back (Refused w (label - a)) (rw (s.more, up) (many_refused s.reads label w e (b - label) (label - a)))
+  module _ (k : label ≤ b) where
+    up : suc b - label ≡ suc (b - label)
+    up = omega arith
 
-      pub one_more : verdict s.reads label ≡ takes → {m : Room} {fs : List ℕ} → Writes g t es i label m fs
-          → Placed (put_at g m.turn) (set t m.block m.after) fs m.block (label + 1)
-      one_more e y =
-          let left : suc b - (label + 1) ≡ b - label = omega arith in
-          let count : label + 1 - a ≡ suc (label - a) = let f = s.from in omega arith in
-          record {
-            reads = record { ready = ready_after s.reads label e y; here = room_block s.reads _ y.room };
-            same = s.same;
-            range = s.range;
-            from = let f = s.from in omega arith;
-            to = omega arith;
-            others = kept s.reads label e y ∙ s.others;
-            more = rw (s.more, up, many_taken s.reads label e y (b - label) (label - a), left, count, add-one);
-          }
+    pub stopped : (w : Refusal) → verdict s.reads label ≡ refuses w → given (Refused w (label - a)) g t es ≡ back_of t₀ h.nb (out h t₀ es₀ a b)
+    stopped w e = back (Refused w (label - a)) (rw (s.more, up) (many_refused s.reads label w e (b - label) (label - a)))
+
+    pub one_more : verdict s.reads label ≡ takes → {m : Room} {fs : List ℕ} → Writes g t es i label m fs
+        → Placed h t₀ es₀ a b (put_at g m.turn) (set t m.block m.after) fs m.block (label + 1)
+    one_more e y =
+        let left : suc b - (label + 1) ≡ b - label = omega arith in
+        let count : label + 1 - a ≡ suc (label - a) = let f = s.from in omega arith in
+        record {
+          reads = record { ready = ready_after s.reads label e y; here = room_block s.reads _ y.room };
+          same = s.same;
+          range = s.range;
+          from = let f = s.from in omega arith;
+          to = omega arith;
+          others = kept s.reads label e y ∙ s.others;
+          more = rw (s.more, up, many_taken s.reads label e y (b - label) (label - a), left, count, add-one);
+        }

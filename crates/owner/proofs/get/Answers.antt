@@ -17,21 +17,21 @@ block_after-here-requires c =
     rw c.from-nb.ensures (block_below _ _ _ s.ready _ _ s.block)
 
 pub loop-current-smaller : goal.loop-current-smaller
-loop-current-smaller c = omega (arith, onward _ _ _ c.loop-current.invariant (sym c.loop-current-test.ensures))
+loop-current-smaller c = omega (arith, onward c.loop-current.invariant (sym c.loop-current-test.ensures))
 
 pub loop-current-preserved : goal.loop-current-preserved
 loop-current-preserved c =
-    moved _ _ _ c.loop-current.invariant (sym c.loop-current-test.ensures) _ (rw c.from-nb.ensures at c.block_after-here.ensures.0)
+    moved c.loop-current.invariant (sym c.loop-current-test.ensures) _ (rw c.from-nb.ensures at c.block_after-here.ensures.0)
 
 pub returns-then-not-is_written : goal.returns-then-not-is_written
 returns-then-not-is_written c =
-    rw c.refused.ensures (empty _ _ _ c.loop-current.invariant (sym c.loop-current-test.ensures) (sym c.if-not-is_written.ensures))
+    rw c.refused.ensures (empty c.loop-current.invariant (sym c.loop-current-test.ensures) (sym c.if-not-is_written.ensures))
 
 -- the reading place is below NE, where a label stands at it
 below : (c : After-from-place) → (c.loop-current.head.reading < c.args.h.ne) × (c.args.h.ne ≤ 64)
 below c =
     let s = c.loop-current.invariant in
-    (place_below _ _ _ s (ltb-true _ _ (sym c.if-not-is_written.ensures)), (sizes _ _ _ s.ready).ne_most)
+    (place_below s (ltb-true _ _ (sym c.if-not-is_written.ensures)), (sizes _ _ _ s.ready).ne_most)
 
 pub read_label-label-requires : goal.read_label-label-requires
 read_label-label-requires c =
@@ -44,5 +44,5 @@ overflow_add-head-2 c = omega (arith, below (goal.at.overflow_add-head-2 c).Afte
 
 pub returns : goal.returns
 returns c =
-    got _ _ _ c.loop-current.invariant (sym c.loop-current-test.ensures) _ (sym c.if-not-is_written.ensures)
+    got c.loop-current.invariant (sym c.loop-current-test.ensures) _ (sym c.if-not-is_written.ensures)
     (rw (c.from-ne.ensures, c.from-place.ensures) at c.read_label-label.ensures)

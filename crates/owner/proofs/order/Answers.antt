@@ -22,7 +22,7 @@ room_for-requires-clause-sizes c = room_asks c.loop-label.invariant.reads
 pub write_label-requires : goal.write_label-requires
 write_label-requires c =
     let s = c.loop-label.invariant in
-    rw (c.from-ne.ensures, ← same_ne _ _ _ _ _ s) (room_stands s.reads _ (roomed_takes _ _ _ c.in-Ok.ensures).1)
+    rw (c.from-ne.ensures, ← same_ne s) (room_stands s.reads _ (roomed_takes _ _ _ c.in-Ok.ensures).1)
 
 pub offset_bounds-t-here : goal.offset_bounds-t-here
 offset_bounds-t-here c =
@@ -33,27 +33,27 @@ bounds-t-here c = room_below c.loop-label.invariant.reads _ (roomed_takes _ _ _ 
 
 pub returns-in-Err : goal.returns-in-Err
 returns-in-Err c =
-    rw c.placed.ensures (stopped _ _ _ _ _ c.loop-label.invariant c.loop-label-test.true _ (roomed_refuses _ _ _ c.in-Err.ensures))
+    rw c.placed.ensures (stopped c.loop-label.invariant c.loop-label-test.true _ (roomed_refuses _ _ _ c.in-Err.ensures))
 
 pub loop-label-preserved : goal.loop-label-preserved
 loop-label-preserved c =
     let s = c.loop-label.invariant in
     let r = roomed_takes _ _ _ c.in-Ok.ensures in
-    one_more _ _ _ _ _ s c.loop-label-test.true r.0
-    (record { room = r.1; entries = rw (c.from-ne.ensures, ← same_ne _ _ _ _ _ s) at c.write_label.ensures })
+    one_more s c.loop-label-test.true r.0
+    (record { room = r.1; entries = rw (c.from-ne.ensures, ← same_ne s) at c.write_label.ensures })
 
 pub overflow_sub-result : goal.overflow_sub-result
 overflow_sub-result c = omega (arith, c.loop-label.invariant.range)
 
+-- a loop over a range is left before an iteration or after its last
 pub returns : goal.returns
 returns c =
     let s = c.loop-label.invariant in
     elim c.loop-label-test.branch [
-      | else-loop-label-test w ↦ rw (w.head-is, w.t-is, w.entries-is) (whole _ _ _ _ _ s w.loop-label-test.false)
+      | else-loop-label-test w ↦ rw (w.head-is, w.t-is, w.entries-is) (whole s w.loop-label-test.false)
       | then-loop-label-test+in-Ok+else-label-b w ↦
-          rw (w.head-is, w.t-is, w.entries-is)
-          (let r = roomed_takes _ _ _ w.in-Ok.ensures in
-          let n = one_more _ _ _ _ _ s w.loop-label-test.true r.0
-          (record { room = r.1; entries = rw (c.from-ne.ensures, ← same_ne _ _ _ _ _ s) at w.write_label.ensures }) in
-          whole _ _ _ _ _ n (omega arith))
+          let r = roomed_takes _ _ _ w.in-Ok.ensures in
+          let n = one_more s w.loop-label-test.true r.0
+          (record { room = r.1; entries = rw (c.from-ne.ensures, ← same_ne s) at w.write_label.ensures }) in
+          rw (w.head-is, w.t-is, w.entries-is) (whole n (omega arith))
     ]
