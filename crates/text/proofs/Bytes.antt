@@ -1,12 +1,11 @@
 -- The bytes of a line: how many there are, and which parts they have.
-use Rattle.std.proofs.Common.{◌≡◌, refl, sym, ap, subst, ◌∙◌, List, [], ◌∷◌, ◌++◌, map, append-nil, append_assoc, take, drop, ℕ, zero, suc, ◌+◌, ◌*◌, ◌≤◌, length, length-append, arith}
+use Rattle.std.proofs.Common.{◌≡◌, refl, sym, ap, subst, ◌∙◌, List, [], ◌∷◌, ◌++◌, append-nil, append_assoc, take, drop, ℕ, zero, suc, ◌+◌, ◌*◌, ◌≤◌, length, length-append, arith}
 use Rattle.std.proofs.lemmas.List.{length-map}
 use Rattle.std.specs.Int.{to_be_bytes, w64}
 use Rattle.std.specs.Option.{unwrap_or}
 use Rattle.printing.specs.declared.Page.{Page}
 use Rattle.printing.specs.Page.{HasRoom, Wrote}
 use Rattle.printing.proofs.Stores.{wrote_none, wrote_more, wrote_left}
-use Rattle.text.specs.declared.items.Item.{Item}
 use Rattle.text.specs.declared.items.Item.TheVariants.{Nothing, Header, Steps, Numbers, Named}
 use Rattle.text.specs.Pieces.{behind, words, byte}
 use Rattle.text.specs.Items.{name_of}

@@ -1,9 +1,7 @@
 -- The first line of a text, and those behind it.
-use Rattle.std.proofs.Common.{◌≡◌, refl, sym, ap, ◌∙◌, Bool, true, false, List, [], ◌∷◌, ℕ, suc, ◌+◌, ◌-◌, ◌≤◌, ◌<◌, length, take, drop, length-drop, length-append, add-one, arith, eqb}
-use lib.ListN.{take-append-drop, drop_of_length-le}
-use lib.Seq.{length-take-le, drop-drop}
+use Rattle.std.proofs.Common.{◌≡◌, refl, sym, ap, ◌∙◌, Bool, true, false, List, [], ◌∷◌, ℕ, suc, ◌-◌, ◌≤◌, ◌<◌, length, take, drop, length-drop, length-append, add-one, arith, eqb, take-append-drop, drop_of_length-le, length-take-le, drop-drop}
 use Rattle.std.proofs.lemmas.List.{take_rest}
-use Rattle.std.specs.List.{position_or_len, prefix_len}
+use Rattle.std.specs.List.{position_or_len}
 use Rattle.std.proofs.lemmas.List.Sums.{prefix_len-le-length}
 use Rattle.book.proofs.Choice.{cases, T→true, not→false}
 use Rattle.text.specs.Pieces.{onto, lines, bare_length, bare}

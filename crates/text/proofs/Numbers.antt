@@ -1,7 +1,5 @@
 -- The number that a word says, digit by digit.
-use Rattle.std.proofs.Common.{◌≡◌, refl, sym, ap, subst, ◌∙◌, Bool, true, false, not, ◌&&◌, List, [], ◌∷◌, ℕ, suc, ◌+◌, ◌-◌, ◌*◌, ◌≤◌, ◌<◌, length, get_or, drop, add-one, drop-cons, arith, T, leb, Option, Some, None}
-use lib.Dec.{leb→le, le→leb}
-use lib.ListN.{drop_of_length-le}
+use Rattle.std.proofs.Common.{◌≡◌, refl, sym, ap, subst, ◌∙◌, Bool, true, false, not, ◌&&◌, List, [], ◌∷◌, ℕ, suc, ◌+◌, ◌-◌, ◌*◌, ◌≤◌, ◌<◌, length, get_or, drop, add-one, drop-cons, arith, T, leb, Option, Some, None, leb→le, le→leb, drop_of_length-le}
 use Rattle.book.specs.Total.{all}
 use Rattle.book.proofs.Choice.{cases, choose_true, choose_false, and_first, and_second, and_in}
 use Rattle.printing.specs.Decimal.{read_from, is_digit}

@@ -1,6 +1,5 @@
 -- The whole text, line by line: how long a schedule of a shelf is, and what was written so far.
-use Rattle.std.proofs.Common.{◌≡◌, refl, sym, ap, subst, ◌∙◌, true, false, List, [], ◌∷◌, ◌++◌, ℕ, suc, ◌+◌, ◌-◌, ◌≤◌, ◌<◌, length, take, drop, length-append, zero-add, arith, Result, Ok, Err}
-use lib.Seq.{take_at}
+use Rattle.std.proofs.Common.{◌≡◌, refl, sym, ap, subst, ◌∙◌, false, List, [], ◌∷◌, ◌++◌, ℕ, suc, ◌+◌, ◌≤◌, ◌<◌, length, take, drop, length-append, zero-add, arith, Result, Ok, Err, take_at}
 use Rattle.book.proofs.Choice.{lt→true, ge→false}
 use Rattle.printing.specs.declared.Page.{Page}
 use Rattle.printing.specs.Writes.{Writes}

@@ -1,7 +1,5 @@
 -- The words of a line, one after the other: the first one, and those behind it.
-use Rattle.std.proofs.Common.{◌≡◌, refl, sym, ap, subst, ◌∙◌, true, false, not, List, [], ◌∷◌, ◌++◌, ℕ, zero, suc, ◌+◌, ◌-◌, ◌≤◌, ◌<◌, length, take, drop, length-append, length-drop, arith, T, eqb}
-use lib.Dec.{eqb→eq}
-use lib.ListN.{take-append-drop}
+use Rattle.std.proofs.Common.{◌≡◌, refl, sym, ap, subst, ◌∙◌, true, false, List, [], ◌∷◌, ℕ, zero, suc, ◌+◌, ◌≤◌, ◌<◌, length, length-append, length-drop, arith, T, eqb, eqb→eq, take-append-drop}
 use Rattle.std.specs.List.{position_or_len}
 use Rattle.book.proofs.Choice.{cases, T→true, not→false, true_not_false, by_order}
 use Rattle.text.specs.Pieces.{is_blank, is_letter, skip, word, behind, is_none, words_up_to, words}

@@ -1,5 +1,5 @@
 -- What a line asks for. The first word says which form the line has: a step with its code, and how many numbers follow.
-use Rattle.std.specs.Prelude.{Bool, true, false, ◌&&◌, List, [], ◌∷◌, ℕ, ◌+◌, ◌≤◌, length, get_or, if◌then◌else◌, Option, Some, None, Result, Ok, Err, is_some, MatchOption, ⊤}
+use Rattle.std.specs.Prelude.{Bool, true, false, ◌&&◌, List, ℕ, ◌+◌, ◌≤◌, length, get_or, if◌then◌else◌, Option, Some, None, Result, Ok, Err, is_some, MatchOption, ⊤}
 use Rattle.std.specs.Str.{bytes_eq}
 use Rattle.std.specs.List.{list_all}
 use Rattle.words.specs.Words.{letters}

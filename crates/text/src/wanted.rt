@@ -1,4 +1,8 @@
 // What a text is refused for.
+ghost use Rattle.std.specs.Prelude.{◌≡◌, Some};
+ghost use Rattle.words.specs.Words.{letters};
+ghost use Rattle.text.specs.Told.{told, told_of};
+
 use std::fmt;
 
 // What was wanted where a line is refused: the form that its first word has; a line of any form; or less.
@@ -27,9 +31,11 @@ pub enum Bad {
     Line(usize, Wanted),
 }
 
-impl fmt::Display for Wanted {
-    fn fmt<W: fmt::Write>(&self, f: &mut fmt::Formatter<W>) -> fmt::Result {
-        f.write_str(match self {
+impl Wanted {
+    fn told(self) -> &'static str
+        ensures { result.now ≡ letters (told self) }
+    {
+        match self {
             Wanted::Size => "size NB NE T, each of 0 to 255",
             Wanted::Put => "put A",
             Wanted::Get => "get, and nothing behind it",
@@ -44,12 +50,22 @@ impl fmt::Display for Wanted {
             Wanted::Name => "= NAME",
             Wanted::Line => "a step, size, bytes, times, = or #",
             Wanted::Room => "at most 262144 bytes in all",
-        })
+        }
+    }
+}
+
+impl fmt::Display for Wanted {
+    ghost output = { λ w. Some (letters (told w)) };
+
+    fn fmt<W: fmt::Write>(&self, f: &mut fmt::Formatter<W>) -> fmt::Result {
+        f.write_str(self.told())
     }
 }
 
 // The whole text is told as line 0.
 impl fmt::Display for Bad {
+    ghost output = { λ b. Some (told_of b) };
+
     fn fmt<W: fmt::Write>(&self, f: &mut fmt::Formatter<W>) -> fmt::Result {
         match self {
             Bad::TooLong => write!(f, "line 0: wanted a text of at most 262144 bytes"),

@@ -1,6 +1,5 @@
 -- The bytes are made in a room of their own, and copied where the text is not refused.
-use Rattle.std.proofs.Common.{◌≡◌, ℕ, ◌++◌, ◌≤◌, take, drop, refl, arith, sym, ap, ◌∙◌, rules, length}
-use lib.Seq.{length-take-le}
+use Rattle.std.proofs.Common.{◌≡◌, ◌≤◌, refl, arith, sym, ap, ◌∙◌, rules, length, length-take-le}
 use Rattle.std.proofs.lemmas.Result.{err_from_is_err_and}
 use Rattle.text.specs.Meaning.{Meaning, outcome}
 use Rattle.text.proofs.Whole.{long_text, short_text, made_within, made_outcome, bad_outcome}

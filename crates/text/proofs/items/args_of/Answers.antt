@@ -1,4 +1,4 @@
-use Rattle.std.proofs.Common.{◌≡◌, ℕ, ◌+◌, sym, ap, subst, arith, ◌∙◌, length}
+use Rattle.std.proofs.Common.{sym, ap, subst, arith, ◌∙◌, length}
 use Rattle.text.specs.Pieces.{words}
 use Rattle.text.specs.declared.items.Args.{Args}
 use Rattle.text.proofs.Words.{words_few}

@@ -1,5 +1,5 @@
 -- A line that is refused, one that finds no room, and one that is written.
-use Rattle.std.proofs.Common.{sym, ap, ◌∙◌, arith}
+use Rattle.std.proofs.Common.{arith}
 use Rattle.printing.proofs.Stores.{writes_length}
 use Rattle.text.proofs.Words.{zero_is}
 use Rattle.text.proofs.Whole.{said_long, stop_refused, stop_full, goes_on, going_end}

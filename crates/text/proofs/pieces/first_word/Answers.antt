@@ -4,7 +4,7 @@ use borrow.Author.Tests.{tests}
 use Rattle.std.specs.List.{position_or_len}
 use Rattle.std.proofs.lemmas.Iterator.{YieldsList-from_slice}
 use Rattle.std.proofs.lemmas.Iterator.Search.{position_from_yields_List}
-use Rattle.text.specs.Pieces.{is_blank, skip, word, behind}
+use Rattle.text.specs.Pieces.{is_blank, word, behind}
 use Rattle.text.proofs.Places.{place}
 use Rattle.text.proofs.pieces.first_word.Goals as goal
 use Rattle.text.proofs.pieces.first_word.Goals.{After-split_at}

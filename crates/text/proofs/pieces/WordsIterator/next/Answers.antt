@@ -1,5 +1,4 @@
-use Rattle.std.proofs.Common.{◌≡◌, ap, length, [], ◌∷◌, arith, rules}
-use Rattle.text.specs.Pieces.{words}
+use Rattle.std.proofs.Common.{ap, length, arith}
 use Rattle.text.proofs.Words.{words_end, words_next}
 use Rattle.text.proofs.pieces.WordsIterator.next.Goals as goal
 
