@@ -1,72 +1,79 @@
--- The lines of a text, one after the other: the first one, and those behind it.
-use mathlib.Core.Path.{◌≡◌, refl, sym, ap, ◌∙◌}
-use mathlib.Core.Bool.{true, false, not}
-use mathlib.Core.List.{List, [], ◌∷◌}
-use Prim.Native.Nat.{ℕ, suc, ◌+◌, ◌-◌, ◌≤◌, ◌<◌}
-use native.Mathlib.Omega.{arith}
-use lib.Dec.{eqb}
-use lib.ListN.{length, take, drop, length-drop}
-use lib.Seq.{drop-drop, length-take-le, take-take}
+-- The first line of a text, and those behind it.
+use Rattle.std.proofs.Common.{◌≡◌, refl, sym, ap, ◌∙◌, Bool, true, false, List, [], ◌∷◌, ℕ, suc, ◌-◌, ◌≤◌, ◌<◌, length, take, drop, length-drop, length-append, add-one, arith, eqb, take-append-drop, drop_of_length-le, length-take-le, drop-drop}
+use Rattle.std.proofs.lemmas.List.{take_rest}
+use Rattle.std.specs.List.{position_or_len}
+use Rattle.std.proofs.lemmas.List.Sums.{prefix_len-le-length}
 use Rattle.book.proofs.Choice.{cases, T→true, not→false}
-use Rattle.text.specs.Pieces.{onto, lines, bare_length, is_in_line, span}
-use Rattle.text.specs.Parts.{LineAt}
-use Rattle.text.proofs.Runs.{span_yes, span_no, span_none, span_within}
+use Rattle.text.specs.Pieces.{onto, lines, bare_length, bare}
+use Rattle.text.specs.Parts.{FirstLine}
 
-pub lines_none : lines [] ≡ []
+abbrev pub is_end : ℕ → Bool
+is_end b = eqb b 10
+
+lines_none : lines [] ≡ []
 unfolding lines
 lines_none = refl
 
-lines_end : (b : ℕ) (t : List ℕ) → eqb b 10 ≡ true → lines (b ∷ t) ≡ [] ∷ lines t
+pub lines_empty : (t : List ℕ) → length t ≡ 0 → lines t ≡ []
+lines_empty [] h = lines_none
+lines_empty (b ∷ t) h = absurd (omega arith)
+
+lines_end : (b : ℕ) (t : List ℕ) → is_end b ≡ true → lines (b ∷ t) ≡ [] ∷ lines t
 unfolding lines
 lines_end b t e = rw e refl
 
-lines_more : (b : ℕ) (t : List ℕ) → eqb b 10 ≡ false → lines (b ∷ t) ≡ onto b (lines t)
+lines_more : (b : ℕ) (t : List ℕ) → is_end b ≡ false → lines (b ∷ t) ≡ onto b (lines t)
 unfolding lines
 lines_more b t e = rw e refl
+
+abbrev end_of : List ℕ → ℕ
+end_of t = position_or_len is_end t
+
+end_here : (b : ℕ) (t : List ℕ) → is_end b ≡ true → end_of (b ∷ t) ≡ 0
+end_here b t e = rw e refl
+
+end_later : (b : ℕ) (t : List ℕ) → is_end b ≡ false → end_of (b ∷ t) ≡ suc (end_of t)
+end_later b t e = rw e (omega arith)
 
 abbrev split : List ℕ → ℕ → List (List ℕ)
 split l k = take k l ∷ lines (drop (suc k) l)
 
-longer : (b : ℕ) (t : List ℕ) → (1 ≤ length t → lines t ≡ split t (span is_in_line t)) → onto b (lines t) ≡ split (b ∷ t) (suc (span is_in_line t))
-longer b [] more = rw (lines_none, span_none is_in_line) refl
+longer : (b : ℕ) (t : List ℕ) → (1 ≤ length t → lines t ≡ split t (end_of t)) → onto b (lines t) ≡ split (b ∷ t) (suc (end_of t))
+longer b [] more = rw lines_none refl
 longer b (c ∷ t) more = rw (more (omega arith)) refl
 
-pub lines_first : (l : List ℕ) → 1 ≤ length l → lines l ≡ split l (span is_in_line l)
+lines_first : (l : List ℕ) → 1 ≤ length l → lines l ≡ split l (end_of l)
 lines_first [] h = absurd (omega arith)
 lines_first (b ∷ t) h =
     let more = lines_first t in
-    cases (eqb b 10)
-    (λ y.
-    let e = T→true (eqb b 10) y in
-    lines_end b t e ∙ ap (split (b ∷ t)) (sym (span_no is_in_line b t (ap not e))))
-    (λ y.
-    let e = not→false (eqb b 10) y in
-    lines_more b t e ∙ longer b t more ∙ ap (split (b ∷ t)) (sym (span_yes is_in_line b t (ap not e))))
+    cases (is_end b)
+    (λ y. let e = T→true (is_end b) y in lines_end b t e ∙ ap (split (b ∷ t)) (sym (end_here b t e)))
+    (λ y. let e = not→false (is_end b) y in lines_more b t e ∙ longer b t more ∙ ap (split (b ∷ t)) (sym (end_later b t e)))
 
-pub bare_none : (l : List ℕ) → length l ≡ 0 → bare_length l ≡ 0
-unfolding bare_length
-bare_none [] h = refl
-bare_none (b ∷ l) h = absurd (omega arith)
+-- what stands behind a newline; and behind the last line, where there is none
+pub behind_end : (k : ℕ) (t r : List ℕ) → r ≡ drop k t → length r < 1 → r ≡ drop (suc k) t
+behind_end k t r e h =
+    let n : length t ≤ k = omega (arith, ap length e, length-drop k t) in
+    let m : length t ≤ suc k = omega arith in
+    e ∙ drop_of_length-le t n ∙ sym (drop_of_length-le t m)
 
-pub line_found : (t : List ℕ) (at k m : ℕ) → at < length t → k ≡ span is_in_line (drop at t)
-    → m ≡ bare_length (take (at + k - at) (drop at t)) → m ≤ length (take (at + k - at) (drop at t))
-    → LineAt t at (record { from = at + m; to = at + k + 1 })
-line_found t at k m h e f g =
-    let d = drop at t in let n = length-drop at t in let w = span_within is_in_line d in
-    let z : at + k - at ≡ k = omega arith in
-    let zm : at + m - at ≡ m = omega arith in
-    let kl = length-take-le k d (omega arith) in
-    let gk : m ≤ k = omega (arith, ap (λ (j : ℕ). length (take j d)) z) in
-    let next : at + suc k ≡ at + k + 1 = omega arith in
-    let fk : m ≡ bare_length (take k d) = f ∙ ap (λ (j : ℕ). bare_length (take j d)) z in
+pub behind_more : (k : ℕ) (t r : List ℕ) → r ≡ drop k t → take (length r - 1) (drop 1 r) ≡ drop (suc k) t
+behind_more k t r e = take_rest r 1 ∙ ap (drop 1) e ∙ drop-drop 1 k t ∙ rw (add-one k) refl
+
+bare_short : (l : List ℕ) → length (bare l) ≤ length l
+bare_short l = let e = ap length (take-append-drop (bare_length l) l) in omega (arith, length-append (take (bare_length l) l) (drop (bare_length l) l))
+
+pub line_found : (t line behind : List ℕ) (k : ℕ) → 0 < length t → k ≡ end_of t → line ≡ bare (take k t) → behind ≡ drop (suc k) t
+    → FirstLine t line behind
+line_found t line behind k h e f g =
+    let n = end_of t in
+    let small : n ≤ length t = prefix_len-le-length _ t in
+    let d = length-drop (suc k) t in let w = length-take-le k t (omega arith) in
+    let shorter = bare_short (take k t) in
     record {
-      raw = take k d;
-      order = omega arith;
-      end = omega arith;
-      next = omega arith;
-      last = omega arith;
-      is = ap (λ (j : ℕ). take j d) zm ∙ sym (take-take m k d gk) ∙ ap (λ (j : ℕ). take j (take k d)) fk;
-      splits =
-          lines_first d (omega arith) ∙ ap (split d) (sym e)
-          ∙ ap (λ (x : List ℕ). take k d ∷ lines x) (drop-drop (suc k) at t ∙ ap (λ (j : ℕ). drop j t) next);
+      raw = take k t;
+      is = f;
+      splits = lines_first t (omega arith) ∙ rw (← e, ← g) refl;
+      shorter = omega (arith, ap length f, ap length g);
+      less = omega (arith, ap length g);
     }

@@ -1,9 +1,8 @@
-pub mod Runs
+pub mod Places
 pub mod Words
 pub mod FirstLine
 pub mod Numbers
 pub mod Args
-pub mod Meant
 pub mod Bytes
 pub mod Stored
 pub mod Whole

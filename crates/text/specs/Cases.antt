@@ -2,7 +2,7 @@
 use Rattle.std.specs.Prelude.{◌≡◌, List, [], ◌∷◌, map}
 use Prim.Native.String.{String}
 use Rattle.words.specs.Words.{letters}
-use Rattle.text.specs.declared.items.Wanted.TheVariants.{Size, Put, Get, Look, Claim, Step, Bytes, Times, Name, Line}
+use Rattle.text.specs.declared.wanted.Wanted.TheVariants.{Size, Put, Get, Look, Claim, Step, Bytes, Times, Name, Line}
 use Rattle.text.specs.Meaning.{Meaning, bytes, refused, meaning}
 
 pub record Case : Type 0 where

@@ -3,3 +3,4 @@ pub mod Items
 pub mod Meaning
 pub mod Parts
 pub mod Cases
+pub mod Told

@@ -1,5 +1,7 @@
 -- The pieces of a text: its lines, the words of a line, and the number that a word says.
-use Rattle.std.specs.Prelude.{Bool, true, false, not, ◌&&◌, ◌||◌, List, [], ◌∷◌, map, ℕ, zero, suc, ◌-◌, length, get_or, take, drop, if◌then◌else◌}
+use Rattle.std.specs.Prelude.{Bool, true, false, not, ◌&&◌, ◌||◌, List, [], ◌∷◌, ℕ, zero, suc, ◌-◌, length, get_or, take, drop, if◌then◌else◌, Option, Some, None}
+use Rattle.std.specs.List.{position_or_len}
+use Rattle.std.specs.Option.{option_map, option_and_then}
 use Rattle.book.specs.Choice.{◌≤ᵇ◌, ◌≡ᵇ◌}
 use Rattle.book.specs.Total.{all}
 use Rattle.printing.specs.Decimal.{read_from, is_digit}
@@ -32,23 +34,15 @@ is_blank b = b ≡ᵇ 32 || b ≡ᵇ 9
 abbrev pub is_letter : ℕ → Bool
 is_letter b = not (is_blank b)
 
-abbrev pub is_in_line : ℕ → Bool
-is_in_line b = not (b ≡ᵇ 10)
-
--- how many bytes at the front pass a test
-unfoldable pub span : (ℕ → Bool) → List ℕ → ℕ
-span p [] = 0
-span p (b ∷ l) = if p b then suc (span p l) else 0
-
 -- the first word, between blanks, and what stands behind it
 unfoldable pub skip : List ℕ → List ℕ
-skip l = drop (span is_blank l) l
+skip l = drop (position_or_len is_letter l) l
 
 unfoldable pub word : List ℕ → List ℕ
-word l = take (span is_letter (skip l)) (skip l)
+word l = take (position_or_len is_blank (skip l)) (skip l)
 
 unfoldable pub behind : List ℕ → List ℕ
-behind l = drop (span is_letter (skip l)) (skip l)
+behind l = drop (position_or_len is_blank (skip l)) (skip l)
 
 abbrev pub is_none : List ℕ → Bool
 is_none [] = true
@@ -62,13 +56,6 @@ words_up_to (suc k) l = if is_none (word l) then [] else word l ∷ words_up_to 
 unfoldable pub words : List ℕ → List (List ℕ)
 words l = words_up_to (length l) l
 
--- two words are one
-unfoldable pub same : List ℕ → List ℕ → Bool
-same [] [] = true
-same [] (c ∷ m) = false
-same (b ∷ l) [] = false
-same (b ∷ l) (c ∷ m) = b ≡ᵇ c && same l m
-
 -- ---- numbers
 
 -- the greatest number of 32 bits
@@ -79,9 +66,18 @@ greatest = 4294967295
 unfoldable pub is_number : List ℕ → Bool
 is_number w = not (is_none w) && (all is_digit w && read_from 0 w ≤ᵇ greatest)
 
--- what a word says: a word that is no number says one that is above every limit
-unfoldable pub value : List ℕ → ℕ
-value w = if is_number w then read_from 0 w else suc greatest
+-- the number that a word says
+unfoldable pub number : List ℕ → Option ℕ
+number w = if is_number w then Some (read_from 0 w) else None
 
-unfoldable pub numbers : List ℕ → List ℕ
-numbers l = map value (words l)
+-- the numbers that words say; none where one of them says no number
+unfoldable pub numbers_of : List (List ℕ) → Option (List ℕ)
+numbers_of [] = Some []
+numbers_of (w ∷ ws) = option_and_then (λ n. option_map (λ ns. n ∷ ns) (numbers_of ws)) (number w)
+
+abbrev pub numbers : List ℕ → Option (List ℕ)
+numbers l = numbers_of (words l)
+
+-- the byte that a word says
+unfoldable pub byte : List ℕ → Option ℕ
+byte w = option_and_then (λ n. if n ≤ᵇ 255 then Some n else None) (number w)

@@ -1,409 +1,235 @@
 // What a line asks for: the form that its first word has, its numbers, and the item that they make.
-ghost use Rattle.std.specs.Prelude.{◌≡◌, Bool, ℕ, ◌+◌, ◌≤◌, ◌<◌, length, drop, if◌then◌else◌};
-ghost use Rattle.text.specs.Pieces.{behind, numbers};
-ghost use Rattle.text.specs.Items.{plain, adding, other, form_of, other_form_of, args_of, larger, step_item, size_item, bytes_item, times_item, name_item, name_of, item_by, item, is_named, is_refused, wanted_of};
+ghost use Rattle.std.specs.Prelude.{◌≡◌, ◌+◌, ◌<◌, length, is_some};
+ghost use Rattle.std.specs.Option.{option_map};
+ghost use Rattle.std.specs.List.{list_all};
+ghost use Rattle.text.specs.Pieces.{words, numbers, byte};
+ghost use Rattle.text.specs.Items.{plain, adding, form_of, IsByteCode, HasByteCode, args_of, step_item, size_item, bytes_item, times_item, name_of, name_item, item, is_named};
 ghost use Rattle.text.specs.Parts.{more};
 
-use crate::pieces::{Stop, number_of, same_bytes, span_of, word_at};
+use crate::pieces::{Words, byte_of, count_words, first_word, number_of, skip_blanks};
+use crate::wanted::Wanted;
 
-#[derive(Clone, Copy)]
-pub enum Kind {
-    IsStep,
-    IsSize,
-    IsBytes,
-    IsTimes,
-    IsName,
-    Unknown,
-}
-
-// What was wanted where a line is refused: the form that its first word has; a line of any form; or less.
-#[derive(Clone, Copy)]
-pub enum Wanted {
-    Size,
-    Put,
-    Get,
-    Order,
-    Look,
-    Claim,
-    Fetch,
-    Finish,
-    Step,
-    Bytes,
-    Times,
-    Name,
-    Line,
-    Room,
-    Text,
-}
-
-// A step's code, whether a number of at most `most` is added to it, and how many numbers follow.
-#[derive(Clone, Copy)]
-pub struct Form {
-    pub kind: Kind,
+// A step's word: its code; the most that a number in front of the others may be, which is added to the code, if there
+// is one; and how many numbers follow.
+#[derive(Clone, Copy, Debug, PartialEq, Eq)]
+pub struct StepForm {
     pub code: u8,
-    pub added: bool,
-    pub most: u8,
+    pub adding: Option<u8>,
     pub follow: u8,
     pub wanted: Wanted,
 }
 
-// How many numbers a line has, the largest of them, and the first three.
-#[derive(Clone, Copy)]
-pub struct Args {
-    pub count: usize,
-    pub most: u64,
-    pub a: u64,
-    pub b: u64,
-    pub c: u64,
+#[derive(Clone, Copy, Debug, PartialEq, Eq)]
+pub enum Form {
+    Step(StepForm),
+    Size,
+    Bytes,
+    Times,
+    Name,
 }
 
-#[derive(Clone, Copy)]
+// How many numbers a line has, and the first three.
+#[derive(Clone, Copy, Debug, PartialEq, Eq)]
+pub struct Args {
+    pub count: usize,
+    pub a: u32,
+    pub b: u32,
+    pub c: u32,
+}
+
+#[derive(Clone, Copy, Debug, PartialEq, Eq)]
 pub enum Item {
     Nothing,
     Header {
-        nb: u64,
-        ne: u64,
-        t: u64,
+        nb: u8,
+        ne: u8,
+        t: u8,
     },
     Steps {
         times: u32,
-        code: u64,
-        a: u64,
-        b: u64,
+        code: u8,
+        a: u32,
+        b: u32,
     },
     Numbers,
     Named,
-    Refused(Wanted),
 }
 
-fn plain_form(code: u8, follow: u8, wanted: Wanted) -> Form
+fn plain(code: u8, follow: u8, wanted: Wanted) -> Option<Form>
     ensures { result ≡ plain code follow wanted }
 {
-    Form {
-        kind: Kind::IsStep,
+    Some(Form::Step(StepForm {
         code,
-        added: false,
-        most: 0,
+        adding: None,
         follow,
         wanted,
-    }
+    }))
 }
 
-fn adding_form(code: u8, most: u8, follow: u8, wanted: Wanted) -> Form
+fn adding(code: u8, most: u8, follow: u8, wanted: Wanted) -> Option<Form>
     ensures { result ≡ adding code most follow wanted }
 {
-    Form {
-        kind: Kind::IsStep,
+    Some(Form::Step(StepForm {
         code,
-        added: true,
-        most,
+        adding: Some(most),
         follow,
         wanted,
-    }
-}
-
-fn other_form(kind: Kind, wanted: Wanted) -> Form
-    ensures { result ≡ other kind wanted }
-{
-    Form {
-        kind,
-        code: 0,
-        added: false,
-        most: 0,
-        follow: 0,
-        wanted,
-    }
+    }))
 }
 
 // The form that a first word has.
 #[tactic(auto, unfolding(crate::specs::Items::form_of))]
-fn form_of(word: &[u8]) -> Form
-    ensures { result ≡ form_of word.now }
+fn form_of(word: &[u8]) -> Option<Form>
+    ensures is { result ≡ form_of word.now }
+    ensures fits { HasByteCode result }
 {
-    if same_bytes(word, b"put") {
-        return plain_form(0, 1, Wanted::Put);
-    }
-    if same_bytes(word, b"get") {
-        return plain_form(1, 0, Wanted::Get);
-    }
-    if same_bytes(word, b"order") {
-        return plain_form(2, 2, Wanted::Order);
-    }
-    if same_bytes(word, b"claim") {
-        return adding_form(16, 15, 0, Wanted::Claim);
-    }
-    if same_bytes(word, b"fetch") {
-        return adding_form(32, 15, 0, Wanted::Fetch);
-    }
-    if same_bytes(word, b"finish") {
-        return adding_form(48, 15, 0, Wanted::Finish);
-    }
-    if same_bytes(word, b"look") {
-        return adding_form(64, 15, 1, Wanted::Look);
-    }
-    if same_bytes(word, b"step") {
-        return adding_form(0, 255, 2, Wanted::Step);
-    }
-    other_form_of(word)
-}
-
-// The form of a first word that names no step.
-#[tactic(auto, unfolding(crate::specs::Items::other_form_of))]
-fn other_form_of(word: &[u8]) -> Form
-    ensures { result ≡ other_form_of word.now }
-{
-    if same_bytes(word, b"size") {
-        return other_form(Kind::IsSize, Wanted::Size);
-    }
-    if same_bytes(word, b"bytes") {
-        return other_form(Kind::IsBytes, Wanted::Bytes);
-    }
-    if same_bytes(word, b"times") {
-        return other_form(Kind::IsTimes, Wanted::Times);
-    }
-    if same_bytes(word, b"=") {
-        return other_form(Kind::IsName, Wanted::Name);
-    }
-    other_form(Kind::Unknown, Wanted::Line)
-}
-
-fn pick(t: bool, x: u64, y: u64) -> u64
-    ensures { result ≡ (if t then x else y) }
-{
-    if t { x } else { y }
-}
-
-// One number more.
-fn with_number(r: Args, n: u64) -> Args
-    requires { r.count < 4294967296 }
-    ensures { result ≡ more r n }
-{
-    let count = r.count;
-    let most = pick(r.most < n, n, r.most);
-    let a = pick(count == 0, n, r.a);
-    let b = pick(count == 1, n, r.b);
-    let c = pick(count == 2, n, r.c);
-    Args {
-        count: count + 1,
-        most,
-        a,
-        b,
-        c,
+    match word {
+        b"put" => plain(0, 1, Wanted::Put),
+        b"get" => plain(1, 0, Wanted::Get),
+        b"order" => plain(2, 2, Wanted::Order),
+        b"claim" => adding(16, 15, 0, Wanted::Claim),
+        b"fetch" => adding(32, 15, 0, Wanted::Fetch),
+        b"finish" => adding(48, 15, 0, Wanted::Finish),
+        b"look" => adding(64, 15, 1, Wanted::Look),
+        b"step" => adding(0, 255, 2, Wanted::Step),
+        b"size" => Some(Form::Size),
+        b"bytes" => Some(Form::Bytes),
+        b"times" => Some(Form::Times),
+        b"=" => Some(Form::Name),
+        _ => None,
     }
 }
 
-// The numbers from `at` on.
-pub fn args_from(line: &[u8], at: usize) -> Args
-    requires { (at ≤ length line.now) × (length line.now ≤ 262144) }
-    ensures { (result ≡ args_of (numbers (drop at line.now))) × (result.count ≤ 262144) }
+impl Args {
+    // One number more.
+    fn with(self, n: u32) -> Args
+        requires { self.count + 1 < 18446744073709551616 }
+        ensures { result ≡ more self n }
+    {
+        let Args { count, a, b, c } = self;
+        Args {
+            count: count + 1,
+            a: if count == 0 { n } else { a },
+            b: if count == 1 { n } else { b },
+            c: if count == 2 { n } else { c },
+        }
+    }
+}
+
+// The numbers of a line, if all its words are numbers.
+fn args_of(line: &[u8]) -> Option<Args>
+    ensures { result ≡ option_map args_of (numbers line.now) }
 {
-    let mut r = Args {
+    let mut args = Args {
         count: 0,
-        most: 0,
         a: 0,
         b: 0,
         c: 0,
     };
-    let mut i = at;
-    while i < line.len() {
-        let w = word_at(line, i);
-        let from = w.from;
-        let to = w.to;
-        if to <= from {
-            return r;
-        }
-        let n = number_of(&line[from..to]);
-        r = with_number(r, n);
-        i = to;
+    for word in Words(line) {
+        args = args.with(number_of(word)?);
     }
-    r
+    Some(args)
 }
 
-#[tactic(auto, unfolding(crate::specs::Items::step_item))]
-fn step_item(f: Form, r: Args, times: u32) -> Item
-    ensures { result ≡ step_item f r times }
+// The step of a form, `times` times; the line is what stands behind its word.
+fn step_item(form: StepForm, line: &[u8], times: u32) -> Result<Item, Wanted>
+    requires { IsByteCode form }
+    ensures { result ≡ step_item form (numbers line.now) times }
 {
-    let code = f.code as u64;
-    let most = f.most as u64;
-    let follow = f.follow as usize;
-    let wanted = f.wanted;
-    if f.added {
-        if (r.count == follow + 1) & (r.most <= 4294967295) & (r.a <= most) {
-            return Item::Steps {
-                times,
-                code: code + r.a,
-                a: r.b,
-                b: r.c,
-            };
-        }
-        return Item::Refused(wanted);
-    }
-    if (r.count == follow) & (r.most <= 4294967295) {
-        return Item::Steps {
+    let StepForm {
+        code,
+        adding,
+        follow,
+        wanted,
+    } = form;
+    let Args { count, a, b, c } = args_of(line).ok_or(wanted)?;
+    match adding {
+        None if count == usize::from(follow) => Ok(Item::Steps { times, code, a, b }),
+        Some(most) if count == usize::from(follow) + 1 && a <= u32::from(most) => Ok(Item::Steps {
             times,
-            code,
-            a: r.a,
-            b: r.b,
-        };
+            code: code + a as u8,
+            a: b,
+            b: c,
+        }),
+        _ => Err(wanted),
     }
-    Item::Refused(wanted)
 }
 
-#[tactic(auto, unfolding(crate::specs::Items::size_item))]
-fn size_item(r: Args) -> Item
-    ensures { result ≡ size_item r }
+fn size_item(line: &[u8]) -> Result<Item, Wanted>
+    ensures { result ≡ size_item (numbers line.now) }
 {
-    if (r.count == 3) & (r.most <= 255) {
-        return Item::Header {
-            nb: r.a,
-            ne: r.b,
-            t: r.c,
-        };
+    let Args { count, a, b, c } = args_of(line).ok_or(Wanted::Size)?;
+    match (u8::try_from(a), u8::try_from(b), u8::try_from(c)) {
+        (Ok(nb), Ok(ne), Ok(t)) if count == 3 => Ok(Item::Header { nb, ne, t }),
+        _ => Err(Wanted::Size),
     }
-    Item::Refused(Wanted::Size)
 }
 
-#[tactic(auto, unfolding(crate::specs::Items::bytes_item))]
-fn bytes_item(r: Args) -> Item
-    ensures { result ≡ bytes_item r }
+fn all_bytes(line: &[u8]) -> bool
+    ensures { result ≡ list_all (λ w. is_some (byte w)) (words line.now) }
 {
-    if (1 <= r.count) & (r.most <= 255) {
-        return Item::Numbers;
+    Words(line).all(|word| byte_of(word).is_some())
+}
+
+fn bytes_item(line: &[u8]) -> Result<Item, Wanted>
+    ensures { result ≡ bytes_item (words line.now) }
+{
+    if count_words(line) > 0 && all_bytes(line) {
+        Ok(Item::Numbers)
+    } else {
+        Err(Wanted::Bytes)
     }
-    Item::Refused(Wanted::Bytes)
 }
 
 // The step that stands behind `times` and its number.
 #[tactic(auto, unfolding(crate::specs::Items::times_item))]
-fn times_item(line: &[u8], at: usize) -> Item
-    requires { (at ≤ length line.now) × (length line.now ≤ 262144) }
-    ensures { result ≡ times_item (drop at line.now) }
+fn times_item(line: &[u8]) -> Result<Item, Wanted>
+    ensures { result ≡ times_item line.now }
 {
-    let w = word_at(line, at);
-    let from = w.from;
-    let to = w.to;
-    let n = number_of(&line[from..to]);
-    if 4294967295 < n {
-        return Item::Refused(Wanted::Times);
-    }
-    let v = word_at(line, to);
-    let start = v.from;
-    let end = v.to;
-    let f = form_of(&line[start..end]);
-    let i = step_item(f, args_from(line, end), n as u32);
-    let kind = f.kind;
-    match kind {
-        Kind::IsStep => i,
-        Kind::IsSize => Item::Refused(Wanted::Times),
-        Kind::IsBytes => Item::Refused(Wanted::Times),
-        Kind::IsTimes => Item::Refused(Wanted::Times),
-        Kind::IsName => Item::Refused(Wanted::Times),
-        Kind::Unknown => Item::Refused(Wanted::Times),
+    let (word, line) = first_word(line);
+    let times = number_of(word).ok_or(Wanted::Times)?;
+    let (word, line) = first_word(line);
+    match form_of(word) {
+        Some(Form::Step(form)) => step_item(form, line, times),
+        _ => Err(Wanted::Times),
     }
 }
 
-// Where the name behind a line's first word starts.
-pub fn name_at(line: &[u8]) -> usize
-    ensures { (result ≤ length line.now) × (drop result line.now ≡ name_of line.now) }
+// The name behind a line's first word.
+#[tactic(auto, unfolding(crate::specs::Items::name_of))]
+pub fn name_of(line: &[u8]) -> &[u8]
+    ensures { result.now ≡ name_of line.now }
 {
-    let w = word_at(line, 0);
-    let to = w.to;
-    to + span_of(&line[to..], Stop::Blank)
+    let (_, line) = first_word(line);
+    skip_blanks(line)
 }
 
-fn name_item(line: &[u8]) -> Item
+#[tactic(auto, unfolding(crate::specs::Items::name_item))]
+fn name_item(line: &[u8]) -> Result<Item, Wanted>
     ensures { result ≡ name_item line.now }
 {
-    if line.len() <= name_at(line) {
-        return Item::Refused(Wanted::Name);
+    if name_of(line).is_empty() {
+        return Err(Wanted::Name);
     }
-    Item::Named
-}
-
-// The item of a line whose first word, of form f, ends at `to`.
-fn item_by(line: &[u8], to: usize, f: Form) -> Item
-    requires { (to ≤ length line.now) × (length line.now ≤ 262144) × (drop to line.now ≡ behind line.now) }
-    ensures { result ≡ item_by line.now f f.kind }
-{
-    let kind = f.kind;
-    match kind {
-        Kind::IsStep => step_item(f, args_from(line, to), 1),
-        Kind::IsSize => size_item(args_from(line, to)),
-        Kind::IsBytes => bytes_item(args_from(line, to)),
-        Kind::IsTimes => times_item(line, to),
-        Kind::IsName => name_item(line),
-        Kind::Unknown => Item::Refused(Wanted::Line),
-    }
+    Ok(Item::Named)
 }
 
 // What a line asks for.
 #[tactic(auto, unfolding(crate::specs::Items::item))]
-pub fn item_of(line: &[u8]) -> Item
-    requires { length line.now ≤ 262144 }
+pub fn item_of(line: &[u8]) -> Result<Item, Wanted>
     ensures { result ≡ item line.now }
 {
-    let w = word_at(line, 0);
-    let from = w.from;
-    let to = w.to;
-    if to <= from {
-        return Item::Nothing;
+    let (word, behind) = first_word(line);
+    if let [] | [b'#', ..] = word {
+        return Ok(Item::Nothing);
     }
-    if line[from] == b'#' {
-        return Item::Nothing;
-    }
-    item_by(line, to, form_of(&line[from..to]))
-}
-
-pub fn is_named(i: Item) -> bool
-    ensures { result ≡ is_named i }
-{
-    match i {
-        Item::Nothing => false,
-        Item::Header { nb: _, ne: _, t: _ } => false,
-        Item::Steps {
-            times: _,
-            code: _,
-            a: _,
-            b: _,
-        } => false,
-        Item::Numbers => false,
-        Item::Named => true,
-        Item::Refused(_) => false,
-    }
-}
-
-pub fn is_refused(i: Item) -> bool
-    ensures { result ≡ is_refused i }
-{
-    match i {
-        Item::Nothing => false,
-        Item::Header { nb: _, ne: _, t: _ } => false,
-        Item::Steps {
-            times: _,
-            code: _,
-            a: _,
-            b: _,
-        } => false,
-        Item::Numbers => false,
-        Item::Named => false,
-        Item::Refused(_) => true,
-    }
-}
-
-pub fn wanted_of(i: Item) -> Wanted
-    ensures { result ≡ wanted_of i }
-{
-    match i {
-        Item::Nothing => Wanted::Line,
-        Item::Header { nb: _, ne: _, t: _ } => Wanted::Line,
-        Item::Steps {
-            times: _,
-            code: _,
-            a: _,
-            b: _,
-        } => Wanted::Line,
-        Item::Numbers => Wanted::Line,
-        Item::Named => Wanted::Line,
-        Item::Refused(w) => w,
+    match form_of(word) {
+        Some(Form::Step(form)) => step_item(form, behind, 1),
+        Some(Form::Size) => size_item(behind),
+        Some(Form::Bytes) => bytes_item(behind),
+        Some(Form::Times) => times_item(behind),
+        Some(Form::Name) => name_item(line),
+        None => Err(Wanted::Line),
     }
 }

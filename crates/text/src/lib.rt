@@ -7,32 +7,30 @@
 mod items;
 mod lines;
 mod pieces;
+mod wanted;
 mod writing;
 
 ghost use Rattle.std.specs.Prelude.{◌≡◌};
 ghost use Rattle.text.specs.Meaning.{meaning, outcome};
 
-pub use items::Wanted;
-pub use lines::Answer;
 use lines::fill;
-use writing::copy;
+use printing::Page;
+pub use wanted::{Bad, Wanted};
 
 // Room for the bytes of every text that is taken.
 pub const ROOM: usize = 262144;
 
-pub fn bytes_of(text: &[u8], out: &mut [u8; ROOM]) -> Answer
+// How many bytes were made.
+pub fn bytes_of(text: &[u8], out: &mut [u8; ROOM]) -> Result<usize, Bad>
     ensures { (result, out.new) ≡ outcome (meaning text.now) out.old }
 {
-    if 262144 < text.len() {
-        return Answer::Bad(0, Wanted::Text);
+    if text.len() > ROOM {
+        return Err(Bad::TooLong);
     }
     let mut room = [0u8; ROOM];
-    let r = fill(text, &mut room);
-    match r {
-        Answer::Made(n) => {
-            copy(out, 0, &room[..n]);
-            r
-        }
-        Answer::Bad(_, _) => r,
-    }
+    let mut page = Page::new(&mut room);
+    fill(&mut page, text)?;
+    let made = page.len;
+    out[..made].copy_from_slice(&page.room[..made]);
+    Ok(made)
 }

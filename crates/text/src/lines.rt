@@ -1,75 +1,67 @@
 // The lines of a text, one after the other.
-ghost use Rattle.std.specs.Prelude.{◌≡◌, true, [], ◌≤◌, length, drop};
+ghost use Rattle.std.specs.Prelude.{◌≡◌, [], ◌≤◌, length};
 ghost use Rattle.text.specs.Pieces.{lines};
-ghost use Rattle.text.specs.Items.{is_named};
+ghost use Rattle.text.specs.declared.items.Item.TheVariants.{Named};
 ghost use Rattle.text.specs.Meaning.{section, going};
 ghost use Rattle.text.specs.Parts.{Filled};
 
-use crate::items::{Item, Wanted, is_named, is_refused, item_of, wanted_of};
-use crate::pieces::line_at;
+use crate::items::{Item, item_of};
+use crate::pieces::first_line;
+use crate::wanted::{Bad, Wanted};
 use crate::writing::{size_of, write_item};
+use printing::Page;
 
-// How many bytes were made; or the line, from 1, and what was wanted there. Line 0 is the whole text.
-#[derive(Clone, Copy)]
-pub enum Answer {
-    Made(usize),
-    Bad(usize, Wanted),
-}
-
-// How many bytes the lines from `from` on have, up to the next name.
-fn section_from(text: &[u8], from: usize) -> usize
+// How many bytes the lines of a text have, up to the next name.
+fn section_of(text: &[u8]) -> usize
     requires { length text.now ≤ 262144 }
-    ensures { result ≡ section (lines (drop from text.now)) }
+    ensures { result ≡ section (lines text.now) }
 {
-    let mut at = from;
     let mut total = 0;
-    while at < text.len() {
-        let l = line_at(text, at);
-        let end = l.from;
-        let i = item_of(&text[at..end]);
-        if is_named(i) {
-            return total;
+    let mut rest = text;
+    while !rest.is_empty() {
+        let (line, behind) = first_line(rest);
+        if let Ok(item) = item_of(line) {
+            match item {
+                Item::Named => return total,
+                _ => total += size_of(line, item),
+            }
         }
-        total = total + size_of(&text[at..end], i);
-        at = l.to;
+        rest = behind;
     }
     total
 }
 
-// The length that a name says: of what stands from `from` on, and 0 for an item that is no name.
-fn length_said(text: &[u8], from: usize, i: Item) -> usize
-    requires { length text.now ≤ 262144 }
-    ensures { is_named i ≡ true → result ≡ section (lines (drop from text.now)) }
+// The length that an item says: a name's is that of the schedule behind it.
+fn length_said(item: Item, behind: &[u8]) -> usize
+    requires { length behind.now ≤ 262144 }
+    ensures { item ≡ Named → result ≡ section (lines behind.now) }
 {
-    if is_named(i) {
-        return section_from(text, from);
+    match item {
+        Item::Named => section_of(behind),
+        _ => 0,
     }
-    0
 }
 
 // The bytes of all lines, or the first that is refused.
-pub fn fill(text: &[u8], out: &mut [u8]) -> Answer
-    requires { (length text.now ≤ 262144) × (length out.old ≡ 262144) }
-    ensures { Filled (going 1 [] (lines text.now)) out.old result out.new }
+pub fn fill(page: &mut Page<'_>, text: &[u8]) -> Result<(), Bad>
+    requires { (length text.now ≤ 262144) × (page.old.len ≡ 0) × (length page.old.room.now ≡ 262144) }
+    ensures { Filled (going 1 [] (lines text.now)) page.old result page.new }
 {
-    let mut at = 0;
     let mut number = 1;
-    let mut end = 0;
-    while at < text.len() {
-        let l = line_at(text, at);
-        let stop = l.from;
-        let next = l.to;
-        let i = item_of(&text[at..stop]);
-        if is_refused(i) {
-            return Answer::Bad(number, wanted_of(i));
+    let mut rest = text;
+    while !rest.is_empty() {
+        let (line, behind) = first_line(rest);
+        let item = match item_of(line) {
+            Ok(item) => item,
+            Err(wanted) => return Err(Bad::Line(number, wanted)),
+        };
+        if page.room.len() - page.len < size_of(line, item) {
+            return Err(Bad::Line(number, Wanted::Room));
         }
-        if 262144 - end < size_of(&text[at..stop], i) {
-            return Answer::Bad(number, Wanted::Room);
-        }
-        let k = length_said(text, next, i);
-        end = write_item(&text[at..stop], k, i, out, end);
-        at = next;
-        number = number + 1;
+        let k = length_said(item, behind);
+        write_item(page, line, k, item);
+        rest = behind;
+        number += 1;
     }
-    Answer::Made(end)
+    Ok(())
 }

@@ -1,138 +1,110 @@
-// The pieces of a text: runs of bytes, words, numbers, and lines. Their meaning stands in specs/Pieces.antt.
-ghost use Rattle.std.specs.Prelude.{◌≡◌, ◌+◌, ◌-◌, ◌*◌, ◌≤◌, ◌<◌, length, drop};
-ghost use Rattle.printing.specs.Decimal.{is_digit};
-ghost use Rattle.text.specs.Pieces.{span, same, value, bare_length};
-ghost use Rattle.text.specs.Parts.{passes, WordAt, LineAt};
+// The pieces of a text: lines, words and numbers. Their meaning stands in specs/Pieces.antt.
+ghost use Rattle.std.specs.Prelude.{◌≡◌, ◌<◌, length};
+ghost use Rattle.std.specs.Iterator.{YieldsFirstRef, item_count};
+ghost use Rattle.text.specs.Pieces.{bare, is_blank, skip, word, behind, words, number, byte};
+ghost use Rattle.text.specs.Parts.{FirstLine};
 
-// Which bytes a run is made of: blanks, letters, or all that stand in a line.
+// A line without a carriage return at its end.
+#[tactic(auto, unfolding(crate::specs::Pieces::bare_length))]
+fn bare(line: &[u8]) -> &[u8]
+    ensures { result.now ≡ bare line.now }
+{
+    match line {
+        [bare @ .., b'\r'] => bare,
+        _ => line,
+    }
+}
+
+// The first line of a text, and what stands behind it.
+pub fn first_line(text: &[u8]) -> (&[u8], &[u8])
+    requires { 0 < length text.now }
+    ensures { FirstLine text.now result.0.now result.1.now }
+{
+    let end = text.iter().position(|b| *b == b'\n').unwrap_or(text.len());
+    let (line, rest) = text.split_at(end);
+    let behind = match rest {
+        [_, behind @ ..] => behind,
+        [] => rest,
+    };
+    (bare(line), behind)
+}
+
+fn is_blank(b: u8) -> bool
+    ensures { result ≡ is_blank b }
+{
+    matches!(b, b' ' | b'\t')
+}
+
+// What stands behind the blanks at the front.
+pub fn skip_blanks(line: &[u8]) -> &[u8]
+    ensures { result.now ≡ skip line.now }
+{
+    let start = line
+        .iter()
+        .position(|b| !is_blank(*b))
+        .unwrap_or(line.len());
+    &line[start..]
+}
+
+// The first word of a line, and what stands behind it.
+pub fn first_word(line: &[u8]) -> (&[u8], &[u8])
+    ensures word { result.0.now ≡ word line.now }
+    ensures behind { result.1.now ≡ behind line.now }
+{
+    let line = skip_blanks(line);
+    let end = line.iter().position(|b| is_blank(*b)).unwrap_or(line.len());
+    line.split_at(end)
+}
+
+// The words of a line.
 #[derive(Clone, Copy)]
-pub enum Stop {
-    Blank,
-    Letter,
-    InLine,
-}
+pub struct Words<'a>(pub &'a [u8]);
 
-// A part of a slice.
-#[derive(Clone, Copy)]
-pub struct Part {
-    pub from: usize,
-    pub to: usize,
-}
+impl<'a> Iterator for Words<'a> {
+    type Item = &'a [u8];
 
-fn passes_by(stop: Stop, b: u8) -> bool
-    ensures { result ≡ passes stop b }
-{
-    match stop {
-        Stop::Blank => (b == b' ') | (b == b'\t'),
-        Stop::Letter => !((b == b' ') | (b == b'\t')),
-        Stop::InLine => !(b == b'\n'),
-    }
-}
+    ghost next_gives = { YieldsFirstRef (λ s. words s.0.now) };
 
-// How many bytes at the front are of that kind.
-#[tactic(auto, using(crate::proofs::Runs::span_more, crate::proofs::Runs::span_stop, crate::proofs::Runs::span_end))]
-pub fn span_of(s: &[u8], stop: Stop) -> usize
-    ensures { (result ≡ span (passes stop) s.now) × (result ≤ length s.now) }
-{
-    let mut i = 0;
-    while i < s.len() {
-        let b = s[i];
-        if !passes_by(stop, b) {
-            return i;
+    ghost remaining = { item_count (λ s. words s.0.now) };
+
+    fn next(&mut self) -> Option<&'a [u8]> {
+        let (word, behind) = first_word(self.0);
+        if word.is_empty() {
+            return None;
         }
-        i = i + 1;
+        self.0 = behind;
+        Some(word)
     }
-    i
 }
 
-// The first word from `at` on; where there is none, an empty part at the end.
-pub fn word_at(line: &[u8], at: usize) -> Part
-    requires { at ≤ length line.now }
-    ensures { WordAt line.now at result }
+// How many words a line has.
+pub fn count_words(line: &[u8]) -> usize
+    ensures { result ≡ length (words line.now) }
 {
-    let from = at + span_of(&line[at..], Stop::Blank);
-    let to = from + span_of(&line[from..], Stop::Letter);
-    Part { from, to }
+    Words(line).count()
 }
 
-#[tactic(auto, using(crate::proofs::Runs::same_short, crate::proofs::Runs::same_end, crate::proofs::Runs::same_not, crate::proofs::Runs::same_more))]
-pub fn same_bytes(word: &[u8], key: &[u8]) -> bool
-    ensures { result ≡ same word.now key.now }
+// The number that a word says.
+pub fn number_of(word: &[u8]) -> Option<u32>
+    ensures { result ≡ number word.now }
 {
-    let mut i = 0;
-    while i < word.len() {
-        if key.len() <= i {
-            return false;
+    if word.is_empty() {
+        return None;
+    }
+    let mut n = 0u32;
+    for b in word {
+        if !b.is_ascii_digit() {
+            return None;
         }
-        let b = word[i];
-        let c = key[i];
-        if b != c {
-            return false;
-        }
-        i = i + 1;
+        n = n.checked_mul(10)?.checked_add(u32::from(*b - b'0'))?;
     }
-    i == key.len()
+    Some(n)
 }
 
-fn is_digit(b: u8) -> bool
-    ensures { result ≡ is_digit b }
+// The byte that a word says.
+#[tactic(auto, unfolding(crate::specs::Pieces::byte))]
+pub fn byte_of(word: &[u8]) -> Option<u8>
+    ensures { result ≡ byte word.now }
 {
-    (48 <= b) & (b <= 57)
-}
-
-// The number n with one digit more.
-fn with_digit(n: u64, b: u8) -> u64
-    requires { (n ≤ 4294967295) × (48 ≤ b) × (b ≤ 57) }
-    ensures { result ≡ n * 10 + (b - 48) }
-{
-    let d = (b - 48) as u64;
-    n * 10 + d
-}
-
-// What a word says: 4,294,967,296 where it is no number, which is above every limit.
-pub fn number_of(word: &[u8]) -> u64
-    ensures { result ≡ value word.now }
-{
-    if word.len() == 0 {
-        return 4294967296;
-    }
-    let mut n: u64 = 0;
-    let mut i = 0;
-    while i < word.len() {
-        let b = word[i];
-        if !is_digit(b) {
-            return 4294967296;
-        }
-        n = with_digit(n, b);
-        if 4294967295 < n {
-            return 4294967296;
-        }
-        i = i + 1;
-    }
-    n
-}
-
-// A line's length without a carriage return at its end.
-#[tactic(auto, using(crate::proofs::FirstLine::bare_none), unfolding(crate::specs::Pieces::bare_length))]
-fn bare_length(line: &[u8]) -> usize
-    ensures { (result ≡ bare_length line.now) × (result ≤ length line.now) }
-{
-    let n = line.len();
-    if n == 0 {
-        return 0;
-    }
-    if line[n - 1] == 13 {
-        return n - 1;
-    }
-    n
-}
-
-// The line from `at` on: where it ends, and where the next one starts.
-pub fn line_at(text: &[u8], at: usize) -> Part
-    requires { (at < length text.now) × (length text.now ≤ 262144) }
-    ensures { LineAt text.now at result }
-{
-    let end = at + span_of(&text[at..], Stop::InLine);
-    let from = at + bare_length(&text[at..end]);
-    Part { from, to: end + 1 }
+    u8::try_from(number_of(word)?).ok()
 }

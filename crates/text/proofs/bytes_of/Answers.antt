@@ -1,29 +1,49 @@
 -- The bytes are made in a room of their own, and copied where the text is not refused.
-use Rattle.std.proofs.Common.{refl, sym, ap, ◌∙◌, rules}
-use lib.Seq.{length-take-le}
+use Rattle.std.proofs.Common.{◌≡◌, ◌≤◌, refl, arith, sym, ap, ◌∙◌, rules, length, length-take-le}
+use Rattle.std.proofs.lemmas.Result.{err_from_is_err_and}
 use Rattle.text.specs.Meaning.{Meaning, outcome}
 use Rattle.text.proofs.Whole.{long_text, short_text, made_within, made_outcome, bad_outcome}
 use Rattle.text.proofs.bytes_of.Goals as goal
+use Rattle.text.proofs.bytes_of.Goals.{In_ok-fill}
 
-pub returns-then-text-gt262144 : goal.returns-then-text-gt262144
-returns-then-text-gt262144 c = long_text _ _ c.if-text-gt262144.true
+pub returns-then-text-gt-ROOM : goal.returns-then-text-gt-ROOM
+returns-then-text-gt-ROOM c = long_text _ _ c.if-text-gt-ROOM.true
 
-pub fill-r-requires : goal.fill-r-requires
-fill-r-requires c = (c.if-text-gt262144.false, search rules)
+pub fill-requires : goal.fill-requires
+fill-requires c = (c.if-text-gt-ROOM.false, c.new-page.ensures.none, ap length c.new-page.ensures.lent ∙ search rules)
 
--- what is copied stands in the room
-pub slice_bounds-room-end : goal.slice_bounds-room-end
-slice_bounds-room-end c = made_within _ _ _ _ c.fill-r.ensures _ c.in-Made.is
+pub returns-in_err-fill : goal.returns-in_err-fill
+returns-in_err-fill c =
+    let p = err_from_is_err_and c.from_residual.result c.from_residual.ensures.1 in
+    rw (p.1, p.2)
+    (bad_outcome _ _ c.new-page.ensures.none _ _ c.in_err-fill.ensures _
+    ∙ ap (λ (x : Meaning). outcome x c.args.out.now) (sym (short_text _ c.if-text-gt-ROOM.false)))
 
-pub slice_bounds-copy-end-in-Made : goal.slice_bounds-copy-end-in-Made
-slice_bounds-copy-end-in-Made c = sym (length-take-le _ _ (made_within _ _ _ _ c.fill-r.ensures _ c.in-Made.is))
+-- what was made has room
+in_room : (c : In_ok-fill) → c.fill.new.page.len ≤ 262144
+in_room c =
+    let within = made_within _ _ c.new-page.ensures.none _ c.in_ok-fill.ensures in
+    let long : length c.new-page.result.room.now ≡ 262144 = ap length c.new-page.ensures.lent ∙ search rules in
+    omega (arith, within.1)
 
-pub returns-in-Made : goal.returns-in-Made
-returns-in-Made c =
-    made_outcome _ _ _ _ c.in-Made.ensures _ refl _ _ _ c.copy.ensures
-    ∙ ap (λ (x : Meaning). outcome x c.args.out.now) (sym (short_text _ c.if-text-gt262144.false))
+pub slice_bounds-copy_from_slice-end : goal.slice_bounds-copy_from_slice-end
+slice_bounds-copy_from_slice-end c = let fits = in_room c in search rules
 
-pub returns-in-Bad : goal.returns-in-Bad
-returns-in-Bad c =
-    bad_outcome _ _ _ _ c.fill-r.ensures _ _ c.in-Bad.is _
-    ∙ ap (λ (x : Meaning). outcome x c.args.out.now) (sym (short_text _ c.if-text-gt262144.false))
+pub slice_bounds-copy_from_slice-end-3 : goal.slice_bounds-copy_from_slice-end-3
+slice_bounds-copy_from_slice-end-3 c =
+    let within = made_within _ _ c.new-page.ensures.none _ c.in_ok-fill.ensures in
+    sym (length-take-le _ _ within.0)
+
+pub copy_from_slice-requires : goal.copy_from_slice-requires
+copy_from_slice-requires c =
+    let within = made_within _ _ c.new-page.ensures.none _ c.in_ok-fill.ensures in
+    let long : length c.new-page.result.room.now ≡ 262144 = ap length c.new-page.ensures.lent ∙ search rules in
+    let out : length c.args.out.now ≡ 262144 = search rules in
+    let fits : c.fill.new.page.len ≤ length c.args.out.now = omega (arith, within.1) in
+    length-take-le _ _ fits ∙ sym (length-take-le _ _ within.0)
+
+pub returns : goal.returns
+returns c =
+    made_outcome _ _ c.new-page.ensures.none _ c.in_ok-fill.ensures _ _
+    (rw c.copy_from_slice.ensures.after refl)
+    ∙ ap (λ (x : Meaning). outcome x c.args.out.now) (sym (short_text _ c.if-text-gt-ROOM.false))

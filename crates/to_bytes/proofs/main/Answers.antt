@@ -1,12 +1,8 @@
 -- The bytes lie within their room.
-use mathlib.Core.Path.{sym}
+use Rattle.std.proofs.Common.{sym}
 use lib.Seq.{length-take-le}
 use Rattle.text.proofs.Whole.{made_room}
 use Rattle.to_bytes.proofs.main.Goals as goal
 
-pub slice_bounds-out-end : goal.slice_bounds-out-end
-slice_bounds-out-end c = made_room _ _ _ _ _ c.bytes_of-answer.ensures c.in-Made.is
-
 pub slice_bounds-write_all-end : goal.slice_bounds-write_all-end
-slice_bounds-write_all-end c =
-    sym (length-take-le _ _ (made_room _ _ _ _ _ c.bytes_of-answer.ensures c.in-Made.is))
+slice_bounds-write_all-end c = sym (length-take-le _ _ (made_room _ _ _ _ _ c.bytes_of.ensures c.in-Ok.is))

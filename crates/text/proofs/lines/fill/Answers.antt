@@ -1,30 +1,30 @@
 -- A line that is refused, one that finds no room, and one that is written.
-use Rattle.std.proofs.Common.{sym, arith}
-use Rattle.text.proofs.Whole.{piece, said_long, stop_refused, stop_full, goes_on, going_end}
+use Rattle.std.proofs.Common.{arith}
+use Rattle.printing.proofs.Stores.{writes_length}
+use Rattle.text.proofs.Words.{zero_is}
+use Rattle.text.proofs.Whole.{said_long, stop_refused, stop_full, goes_on, going_end}
 use Rattle.text.proofs.lines.fill.Goals as goal
 
-pub returns-then-is_refused : goal.returns-then-is_refused
-returns-then-is_refused c =
-    stop_refused _ _ _ c.line_at-l.ensures _ _ _ _ c.loop-at.invariant.going _ c.item_of-i.ensures (sym c.if-is_refused.ensures) _
-    c.wanted_of.ensures
+pub returns-in-Err : goal.returns-in-Err
+returns-in-Err c = stop_refused _ _ _ _ _ c.loop-rest.invariant.going _ _ c.first_line.ensures _ c.in-Err.ensures
 
-pub returns-then-end-size_of : goal.returns-then-end-size_of
-returns-then-end-size_of c =
-    stop_full _ _ _ c.line_at-l.ensures _ _ _ _ c.loop-at.invariant.going _ c.item_of-i.ensures (sym c.if-is_refused.ensures) (omega arith)
+pub returns-then-page-size_of : goal.returns-then-page-size_of
+returns-then-page-size_of c =
+    stop_full _ _ _ _ _ c.loop-rest.invariant.going _ _ c.first_line.ensures _ c.in-Ok.ensures c.requires.1 (omega (arith, c.size_of.ensures.is))
 
-pub write_item-end-requires : goal.write_item-end-requires
-write_item-end-requires c =
-    let same = said_long (piece _ _ _ c.line_at-l.ensures) c.length_said-k.result c.item_of-i.result in
-    omega arith
+pub write_item-requires : goal.write_item-requires
+write_item-requires c = let same = said_long c.first_line.result.0.now c.length_said-k.result c.in-Ok.item in omega arith
 
-pub loop-at-preserved : goal.loop-at-preserved
-loop-at-preserved c = record {
-  numbered = omega arith;
-  most = omega arith;
-  going =
-      goes_on _ _ _ c.line_at-l.ensures _ _ _ _ c.loop-at.invariant.going _ c.item_of-i.ensures (sym c.if-is_refused.ensures) (omega arith)
-      _ c.length_said-k.ensures _ _ c.write_item-end.ensures;
-}
+pub loop-rest-preserved : goal.loop-rest-preserved
+loop-rest-preserved c =
+    let line = c.first_line.ensures in
+    record {
+      numbered = let less = line.less in omega arith;
+      room = let same = writes_length _ _ _ _ _ c.write_item.ensures.writes in omega arith;
+      going =
+          goes_on _ _ _ _ _ c.loop-rest.invariant.going _ _ line _ c.in-Ok.ensures c.requires.1 (omega arith) _ c.length_said-k.ensures _
+          c.write_item.ensures;
+    }
 
 pub returns : goal.returns
-returns c = going_end _ _ _ _ _ _ c.loop-at.invariant.going c.loop-at-test.false
+returns c = going_end _ _ _ _ _ c.loop-rest.invariant.going (zero_is _ c.loop-rest-test.ensures)

@@ -1,10 +1,9 @@
--- The numbers up to place i are stored; those from there on are left.
-use Rattle.std.proofs.Common.{◌-◌, ◌≤◌, length}
+-- The words that were read are written; those of the rest are left.
+use Rattle.text.specs.Pieces.{words}
 use Rattle.text.proofs.Stored.{Noted}
 use Rattle.text.proofs.writing.write_numbers.Given as goal
 
-abbrev pub invariant-loop-i : goal.invariant-loop-i
-invariant-loop-i l = record { within : l.i ≤ length l.line; noted : Noted l.line l.from l.i l.at l.initial.out l.end l.out }
-
-abbrev pub decreases-loop-i : goal.decreases-loop-i
-decreases-loop-i l = length l.line - l.i
+abbrev pub invariant-loop-word : goal.invariant-loop-word
+invariant-loop-word l =
+    (goal.iterator-loop-word).can_next l.word-iterator × (goal.iterator-loop-word).is_finite l.word-iterator
+    × Noted (words l.line) (words l.word-iterator.0.now) l.initial.page l.page
