@@ -8,7 +8,8 @@ const TAKES: Result<(), Refusal> = Ok(());
 
 const STAGE: Result<(), Refusal> = Err(Refusal::Stage);
 
-// A row for each stage, a column for each step: look, claim, fetch, finish.
+// A row for each stage, a column for each step: look, claim, fetch, finish. The customer asked for this table, constant
+// and indexed by stage and step.
 const GRID: [[Result<(), Refusal>; 4]; 4] = [
     [TAKES, STAGE, STAGE, STAGE], // idle
     [TAKES, TAKES, STAGE, STAGE], // looked

@@ -11,6 +11,7 @@ use line::{Block, Head};
 use rules::check;
 use words::{Answer, Refusal};
 
+// One match over single values and ranges, as the customer asked: the paper's table of codes, line by line.
 fn deed_of(code: u8, a: u32, b: u32) -> Deed
     ensures { result ≡ decode (raw code a b) }
 {
@@ -26,7 +27,8 @@ fn deed_of(code: u8, a: u32, b: u32) -> Deed
     }
 }
 
-// A deed on a sound line. On any other it is UNFIT or DAMAGED, whatever the deed.
+// A deed on a sound line. On any other it is UNFIT or DAMAGED, whatever the deed. The step and the order come here with a
+// deed, and not with a closure: the deeds are a closed enum, and a closure is no plainer.
 fn perform(
     h: Head,
     table: [Block; 64],
