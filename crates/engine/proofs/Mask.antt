@@ -1,6 +1,6 @@
 -- A mask of bits, the first of them lowest: its ones are their number, and its trailing zeros the lowest of them.
 use Rattle.std.proofs.Common.{◌≡◌, ℕ, zero, suc, ◌+◌, ◌*◌, ◌/◌, ◌%◌, ◌^◌, ◌<◌, ◌≤◌, Bool, true, false, List, [], ◌∷◌, length, if◌then◌else◌, bit_or, sym, refl, ap, ◌∙◌, ap₂, add-zero, add-suc, suc-add, pow-suc, zero-add, add-one, arith}
-use Rattle.std.proofs.Math.Count.{ones, ones_step, count_trailing_zeros, under, trailing_of_zero}
+use lib.Count.{ones, ones_step, count_trailing_zeros, under, trailing_of_zero}
 use Rattle.std.proofs.lemmas.Nat.{shl_whole, or_comm, or_shifted}
 use Rattle.book.specs.Total.{total}
 use Rattle.line.specs.declared.Findings.{Findings}
