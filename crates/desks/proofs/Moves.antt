@@ -1,14 +1,8 @@
 -- A desk's step on a sound line: the numbers that it computes with are in range, and it comes to one desk and one
 -- record.
-use mathlib.Core.Path.{◌≡◌, refl, sym, ap, subst, ◌∙◌}
-use mathlib.Core.Bool.{Bool, not}
-use mathlib.Core.List.{List}
-use Prim.Native.Nat.{ℕ, ◌%◌, ◌≤◌, ◌<◌}
-use native.Mathlib.Nat.{mod-lt}
-use native.Mathlib.Omega.{arith}
-use lib.Dec.{leb, leb→le, nleb→lt}
-use lib.ListN.{get_or, set}
-use lib.Seq.{set-get_or}
+use Rattle.std.proofs.Common.{◌≡◌, ℕ, ◌%◌, ◌<◌, ◌≤◌, Bool, not, leb, List, get_or, set, sym, refl, ap, ◌∙◌, subst, mod-lt, arith, leb→le}
+use Rattle.std.proofs.Math.Dec.{nleb→lt}
+use Rattle.std.proofs.Math.Seq.{set-get_or}
 use borrow.Author.Tests.{le-leb, lt-leb}
 use Rattle.words.specs.declared.Answer.{Answer}
 use Rattle.words.specs.declared.Answer.TheVariants.{Refused}

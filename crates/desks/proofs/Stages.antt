@@ -1,6 +1,5 @@
 -- What a desk is by the number of its stage, and what it carries where the grid lets it claim, fetch or finish.
-use mathlib.Core.Path.{◌≡◌, refl, sym, ◌∙◌}
-use Prim.Native.Nat.{ℕ, zero, suc, ◌<◌}
+use Rattle.std.proofs.Common.{◌≡◌, ℕ, zero, suc, ◌<◌, sym, refl, ◌∙◌}
 use Rattle.words.specs.declared.Refusal.TheVariants.{Stage}
 use Rattle.book.specs.Steps.{Desk, holding, claimed_at, hold_of}
 use Rattle.book.specs.Verdicts.{takes, refuses, stage, at_stage}

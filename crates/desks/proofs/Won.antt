@@ -1,11 +1,8 @@
 -- When a claim is won, by comparisons: a turn is its block's current one if it is among the last NB turns up to P,
 -- and the block of a current turn is owned if the turn is at most K.
-use mathlib.Core.Path.{◌≡◌, refl, sym, ◌∙◌}
-use mathlib.Core.Bool.{Bool, true, false, not, ◌&&◌}
-use Prim.Native.Nat.{ℕ, ◌≤◌}
-use native.Mathlib.Nat.{mod-le}
-use native.Mathlib.Omega.{arith}
-use lib.Dec.{leb, ltb, eqb, leb→le, nleb→lt}
+use Rattle.std.proofs.Common.{◌≡◌, ℕ, ◌≤◌, Bool, true, false, not, ◌&&◌, eqb, ltb, leb, sym, refl, ◌∙◌, arith, leb→le}
+use Rattle.std.proofs.Math.Dec.{nleb→lt}
+use Rattle.std.proofs.Math.Nat.{mod-le}
 use borrow.Author.Tests.{le-leb, le-ltb, lt-ltb, eqb-true}
 use Rattle.book.specs.Sizes.{Size, sized, block_of, current_turn, is_owned}
 use Rattle.book.proofs.Choice.{cases, T→true, not→false}

@@ -1,10 +1,7 @@
 -- A call on what was lent goes by what the check says: it is refused, or the line is sound and was lent with its NB
 -- records.
-use mathlib.Core.Path.{◌≡◌, refl, sym, subst, subst⁻¹, ◌∙◌}
-use mathlib.Core.List.{List}
-use Prim.Native.Nat.{ℕ}
-use lib.ListN.{length}
-use Rattle.std.specs.Prelude.{Ok, Err}
+use Rattle.std.proofs.Common.{◌≡◌, ℕ, List, length, Ok, Err, sym, refl, ◌∙◌, subst}
+use Rattle.std.proofs.Math.Path.{subst⁻¹}
 use Rattle.words.specs.declared.Answer.{Answer}
 use Rattle.words.specs.declared.Answer.TheVariants.{Refused}
 use Rattle.book.specs.Sizes.{Size}

@@ -1,22 +1,17 @@
 -- What a code asks for, range by range.
-use Rattle.std.specs.Prelude.{if◌then◌else◌}
-use mathlib.Core.Path.{◌≡◌, refl}
-use mathlib.Core.Bool.{true, false}
-use Prim.Native.Nat.{ℕ, ◌-◌, ◌≤◌, ◌<◌}
-use native.Mathlib.Omega.{arith}
-use lib.Dec.{leb}
+use Rattle.std.proofs.Math.Bool.{and-false}
+use Rattle.std.proofs.Common.{◌≡◌, ℕ, ◌-◌, ◌<◌, ◌≤◌, true, false, leb, if◌then◌else◌, refl, arith}
 use borrow.Author.Tests.{le-leb, lt-leb, ne_eqb}
 use Rattle.book.specs.Sizes.{within}
 use Rattle.book.specs.declared.DeskStep.TheVariants.{Look as look, Claim as claim, Fetch as fetch, Finish as finish}
 use Rattle.book.specs.declared.Deed.TheVariants.{Put as put, Get as get, Order as order, Desk as desk, Unlisted as unlisted}
 use Rattle.book.specs.Steps.{Step, decode}
-use Rattle.book.proofs.Choice.{and_false}
 
 inside : (low high n : ℕ) → low ≤ n → n ≤ high → within low high n ≡ true
 inside low high n a b = rw (le-leb low n a) (le-leb n high b)
 
 above : (low high n : ℕ) → high < n → within low high n ≡ false
-above low high n a = rw (lt-leb n high a) (and_false (leb low n))
+above low high n a = rw (lt-leb n high a) (and-false (leb low n))
 
 below : (low high n : ℕ) → n < low → within low high n ≡ false
 below low high n a = rw (lt-leb low n a) refl

@@ -1,17 +1,13 @@
 -- The bit of a block is what an idle desk's look at it would answer. The block's current turn stands in it, so the look
 -- reads the block's own record.
-use mathlib.Core.Path.{◌≡◌, refl, ap, ◌∙◌}
-use mathlib.Core.Bool.{Bool, true, false, not}
-use Prim.Native.Nat.{ℕ, ◌<◌}
-use lib.ListN.{get_or}
+use Rattle.std.proofs.lemmas.Bool.{lt-leb}
+use Rattle.std.proofs.Common.{◌≡◌, ℕ, ◌<◌, Bool, true, false, not, get_or, is_ok, Ok, Err, refl, ap, ◌∙◌}
 use mir.Val.{bool_byte}
-use Rattle.std.specs.Prelude.{Ok, Err, is_ok}
 use Rattle.book.specs.Choice.{◌≡ᵇ◌}
 use Rattle.book.specs.Sizes.{sized, is_owned, current_turn}
 use Rattle.book.specs.declared.DeskStep.TheVariants.{Look as look}
 use Rattle.book.specs.Steps.{idle, hold_of}
 use Rattle.book.specs.Verdicts.{Verdict, takes, judge, admitted, lookable}
-use Rattle.book.proofs.Choice.{gt→false}
 use Rattle.book.proofs.Turns.{current_block}
 use Rattle.line.specs.declared.Block.{Block}
 use Rattle.line.specs.Line.{Line, Outcome, Spot, size_of, nowhere, refuse, unused, record_of, desk_step}
@@ -49,7 +45,7 @@ module _ (l : Line) (i : ℕ) (b : i < l.head.nb) where
 
   look_admitted : 0 < l.head.t → admitted (size_of l.head) {A = Spot} 0 (look i) idle ≡ takes
   unfolding admitted
-  look_admitted h = rw (gt→false l.head.t 0 h, gt→false l.head.nb i b) refl
+  look_admitted h = rw (lt-leb l.head.t 0 h, lt-leb l.head.nb i b) refl
 
   -- it is the block's own; that of an unused block is not asked for
   look_here : lookable (size_of l.head) l.head.p l.head.k i (waits read) ≡ verdict_at l.head.nb l.head.p l.head.k i (get_or l.table i unused)

@@ -1,15 +1,7 @@
 -- A mask of bits, the first of them lowest: its ones are their number, and its trailing zeros the lowest of them.
-use Rattle.std.specs.Prelude.{if◌then◌else◌}
-use mathlib.Core.Path.{◌≡◌, refl, sym, ap, ap₂, ◌∙◌}
-use mathlib.Core.Bool.{Bool, true, false}
-use mathlib.Core.List.{List, [], ◌∷◌}
-use Prim.Native.Nat.{ℕ, zero, suc, ◌+◌, ◌*◌, ◌/◌, ◌%◌, ◌^◌, ◌≤◌, ◌<◌}
-use native.Mathlib.Nat.{pow-suc, zero-add}
-use Rattle.std.proofs.Common.{bit_or, add-zero, add-suc, add-one, suc-add}
-use Rattle.std.proofs.lemmas.Nat.{shl_whole, or_comm, or_shifted}
-use native.Mathlib.Omega.{arith}
+use Rattle.std.proofs.Common.{◌≡◌, ℕ, zero, suc, ◌+◌, ◌*◌, ◌/◌, ◌%◌, ◌^◌, ◌<◌, ◌≤◌, Bool, true, false, List, [], ◌∷◌, length, if◌then◌else◌, bit_or, sym, refl, ap, ◌∙◌, ap₂, add-zero, add-suc, suc-add, pow-suc, zero-add, add-one, arith}
 use lib.Count.{ones, ones_step, count_trailing_zeros, under, trailing_of_zero}
-use lib.ListN.{length}
+use Rattle.std.proofs.lemmas.Nat.{shl_whole, or_comm, or_shifted}
 use Rattle.book.specs.Total.{total}
 use Rattle.line.specs.declared.Findings.{Findings}
 use Rattle.line.specs.Survey.{bit, mask_of, lowest_from, views}

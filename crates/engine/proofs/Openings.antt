@@ -1,13 +1,7 @@
 -- What opening gives back where the numbers and the lent lengths fit, and where not.
+use Rattle.std.proofs.Common.{◌≡◌, ℕ, ◌≤◌, Bool, true, false, List, ◌++◌, length, take, drop, replicate, sym, refl, arith, le-leb}
 use Rattle.std.proofs.lemmas.List.{length-take-le}
-use mathlib.Core.Path.{◌≡◌, refl, sym}
-use mathlib.Core.Bool.{Bool, true, false}
-use mathlib.Core.List.{List, ◌++◌}
-use Prim.Native.Nat.{ℕ, ◌≤◌}
-use native.Mathlib.Omega.{arith}
-use lib.ListN.{length, take, drop, replicate}
 use Rattle.book.specs.Sizes.{Size}
-use Rattle.book.proofs.Choice.{le→true}
 use Rattle.line.specs.declared.Block.{Block}
 use Rattle.line.specs.declared.Head.{Head}
 use Rattle.line.specs.Line.{unused, opened}
@@ -36,4 +30,4 @@ module _ (t : List Block) (n : ℕ) (es : List ℕ) (z : Size) (long : length t 
     unfolding opens opened put_back
     open_fits h g u v fs gs us vs zs =
         let s = sized z n (length es) b test e in
-        rw (gs, us, vs, ← lent_all, zs, fit_by z t n es long, ← test, e, le→true n 64 (sized_few z n (length es) b test e), s.entries, ← s.blocks) refl
+        rw (gs, us, vs, ← lent_all, zs, fit_by z t n es long, ← test, e, le-leb n 64 (sized_few z n (length es) b test e), s.entries, ← s.blocks) refl

@@ -1,14 +1,9 @@
 -- The survey: refused as the check is, and on a sound line the mask of the blocks' bits.
-use mathlib.Core.Path.{◌≡◌, refl, sym, ap, ap₂, subst, ◌∙◌}
-use mathlib.Core.Bool.{Bool}
-use mathlib.Core.List.{List, ◌∷◌}
-use Prim.Native.Nat.{ℕ, zero, suc, ◌+◌, ◌≤◌, ◌<◌}
+use Rattle.std.proofs.Common.{◌≡◌, ℕ, zero, suc, ◌+◌, ◌<◌, ◌≤◌, Bool, List, ◌∷◌, length, get_or, take, replicate, sym, refl, ap, ◌∙◌, subst, ap₂, arith, le-leb}
 use Rattle.std.proofs.lemmas.List.{length-take-le}
-use native.Mathlib.Omega.{arith}
-use lib.ListN.{length, get_or, take, replicate}
 use Rattle.book.specs.declared.DeskStep.TheVariants.{Look as look}
 use Rattle.book.specs.Steps.{idle}
-use Rattle.book.proofs.Choice.{T→true, le→true}
+use Rattle.book.proofs.Choice.{T→true}
 use Rattle.line.specs.declared.Block.{Block}
 use Rattle.line.specs.declared.Head.{Head}
 use Rattle.line.specs.Line.{Line, size_of, unused, desk_step}
@@ -60,7 +55,7 @@ module _ (h : Head) (t : List Block) (n m : ℕ) (long : length t ≡ 64) (is_so
 
   lent_is : lent_table t n ≡ take n t
   unfolding lent_table
-  lent_is = rw (le→true n 64 (omega (arith, lent_few))) refl
+  lent_is = rw (le-leb n 64 (omega (arith, lent_few))) refl
 
   seen_at : (i : ℕ) (k : i < h.nb) → sees l i k ≡ at i
   seen_at i k =

@@ -1,7 +1,5 @@
 -- The line that is played on: what opening gives over the store, and what a step leaves, lent again.
-use lib.Dec.{T}
-use lib.Seq.{take_at, length-take-le}
-use Rattle.std.proofs.Common.{if◌then◌else◌, Ok, Err, ◌≡◌, refl, sym, ap, subst, ◌∙◌, false, List, ◌++◌, ℕ, ◌*◌, ◌≤◌, arith, length, take, drop, replicate}
+use Rattle.std.proofs.Common.{◌≡◌, ℕ, ◌*◌, ◌≤◌, false, T, List, ◌++◌, length, take, drop, replicate, if◌then◌else◌, Ok, Err, sym, refl, ap, ◌∙◌, subst, arith, length-take-le, take_at, le-leb}
 use Rattle.std.proofs.lemmas.List.{length-replicate}
 use Rattle.std.proofs.lemmas.Nat.{mul-le}
 use Rattle.words.specs.declared.Answer.{Answer}
@@ -10,7 +8,7 @@ use Rattle.words.specs.declared.Refusal.TheVariants.{Unfit}
 use Rattle.words.specs.declared.Answer.TheVariants.{Refused}
 use Rattle.book.specs.Sizes.{Size, fits}
 use Rattle.book.specs.Steps.{Step}
-use Rattle.book.proofs.Choice.{cases, choose_true, choose_false, T→true, not→false, eqb_same, le→true}
+use Rattle.book.proofs.Choice.{cases, choose_true, choose_false, T→true, not→false, eqb_same}
 use Rattle.line.specs.declared.Block.{Block}
 use Rattle.line.specs.declared.Head.{Head}
 use Rattle.line.specs.Line.{Line, Outcome, says, unused, opened}
@@ -37,7 +35,7 @@ use Rattle.player.specs.Spoken.{run, played_with}
 -- n records put back in front of a table are those that it lends
 lent_back : (t u : List Block) (n : ℕ) → n ≤ 64 → length u ≡ n → lent_table (put_back t n u) n ≡ u
 unfolding lent_table put_back
-lent_back t u n h e = rw (le→true n 64 h) (take_at u (drop n t) n e)
+lent_back t u n h e = rw (le-leb n 64 h) (take_at u (drop n t) n e)
 
 -- a step on a sound line leaves a sound line, and the line is what it gives back, lent again
 module _ (z : Size) (h : Head) (t : List Block) (n : ℕ) (es : List ℕ) (w : Lawful z (line_of h t n es)) (s : Step) where

@@ -1,7 +1,5 @@
 -- The whole schedule: which of the tests decides, and the text at the front of what is handed back.
-use lib.Seq.{take_at}
-use Rattle.std.proofs.Common.{◌≡◌, refl, sym, ◌∙◌, Bool, true, false, List, ℕ, ◌≤◌, length, take, drop}
-use Rattle.std.specs.Prelude.{Option, Some, None, if◌then◌else◌}
+use Rattle.std.proofs.Common.{◌≡◌, ℕ, ◌≤◌, Bool, true, false, List, length, take, drop, if◌then◌else◌, Some, None, Option, sym, refl, ◌∙◌, take_at}
 use Rattle.std.specs.Borrow.{MutBor}
 use Rattle.words.specs.Words.{letters}
 use Rattle.book.specs.Sizes.{Size}

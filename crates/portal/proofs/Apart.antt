@@ -1,6 +1,6 @@
 -- No two answers say the same: what is said of an answer tells which it is. So a promise that is an equation of what is
 -- said fixes the answer itself.
-use Rattle.std.proofs.Common.{◌≡◌, ℕ, ◌-◌, get_or, Ok, Err, if◌then◌else◌, refl, sym, ap, ◌∙◌}
+use Rattle.std.proofs.Common.{◌≡◌, ℕ, ◌-◌, get_or, if◌then◌else◌, Ok, Err, sym, refl, ap, ◌∙◌}
 use lib.Text.{eqt}
 use Rattle.words.specs.declared.Answer.{Answer}
 use Rattle.words.specs.declared.Answer.TheVariants.{Put, Got, Took, Whole, Seen, Claimed, Done, Refused}

@@ -2,7 +2,7 @@
 -- Up to 64 records are the engine's line as they are, and the line that it leaves is stored over them; more fit no
 -- line, so both are UNFIT and leave what was lent. So what the engine promises of its outcome the portal promises of
 -- its own.
-use Rattle.std.proofs.Common.{◌≡◌, ℕ, suc, ◌≤◌, ◌<◌, leb, List, [], ◌∷◌, ◌++◌, length, set, drop, refl, sym, ap, ◌∙◌, arith, leb→le, length-set, length-append, take_at}
+use Rattle.std.proofs.Common.{◌≡◌, ℕ, suc, ◌≤◌, ◌<◌, leb, List, [], ◌∷◌, ◌++◌, length, set, drop, refl, sym, ap, ◌∙◌, arith, leb→le, length-set, length-append, take_at, le-leb}
 use Rattle.std.proofs.Math.Dec.{nleb→lt}
 use Rattle.std.proofs.lemmas.List.{length-replicate}
 use Rattle.std.specs.Fn.{Once}
@@ -11,7 +11,7 @@ use Rattle.words.specs.declared.Answer.TheVariants.{Refused}
 use Rattle.words.specs.declared.Refusal.TheVariants.{Unfit}
 use Rattle.book.specs.Sizes.{Size}
 use Rattle.book.specs.Steps.{Step}
-use Rattle.book.proofs.Choice.{cases, le→true}
+use Rattle.book.proofs.Choice.{cases}
 use Rattle.line.specs.declared.Block.{Block}
 use Rattle.line.specs.declared.Head.{Head}
 use Rattle.line.specs.Line.{Line, Outcome, refuse, unused}
@@ -58,14 +58,14 @@ module _ (h : Head) (ys : List Block) (es : List ℕ) where
     -- up to 64 records it is the line that was lent
     same_line : inner ≡ lent h ys es
     unfolding lent_table
-    same_line = rw (le→true (length ys) 64 few, ← (stored_take ys (loaded ys) short), stored_loaded ys) refl
+    same_line = rw (le-leb (length ys) 64 few, ← (stored_take ys (loaded ys) short), stored_loaded ys) refl
 
     -- and as many records, put back, are stored over those that were lent
     stored_back : (u : List Block) → length u ≡ length ys → stored ys (put_back (loaded ys) (length ys) u) ≡ u
     unfolding put_back
     stored_back u e =
         let rest = drop (length ys) (loaded ys) in
-        rw (le→true (length ys) 64 few) (stored_take ys (u ++ rest) (omega (arith, e, length-append u rest)) ∙ take_at u rest (length ys) e)
+        rw (le-leb (length ys) 64 few) (stored_take ys (u ++ rest) (omega (arith, e, length-append u rest)) ∙ take_at u rest (length ys) e)
 
   -- what any call answers, if it refuses more than 64 records
   module _ {A : Type 0} (answer : Line → A) (refusal : A) (refused : (l : Line) → 64 < length l.table → answer l ≡ refusal) where

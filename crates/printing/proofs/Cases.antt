@@ -1,5 +1,5 @@
 -- The cases of specs/Cases.antt, by computing.
-use mathlib.Core.Path.{refl}
+use Rattle.std.proofs.Common.{refl}
 use Rattle.printing.specs.Text.{digits, decimal, line_text}
 use Rattle.printing.specs.Cases.{DecimalCases, LineCases}
 

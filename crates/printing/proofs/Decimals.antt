@@ -1,13 +1,7 @@
 -- Numbers in decimal: a number below 10 is its digit, any other the digits of its tenth and then its last one. So the
 -- digits are digits, they read back as the number, there is no zero in front, and a bound on the number bounds them.
-use mathlib.Core.Path.{◌≡◌, refl, sym, ap, ◌∙◌}
-use mathlib.Core.List.{List, [], ◌∷◌, ◌++◌}
-use Prim.Native.Nat.{ℕ, zero, suc, ◌^◌, ◌/◌, ◌%◌, ◌≤◌, ◌<◌}
-use native.Mathlib.Nat.{pow-suc}
-use native.Mathlib.Omega.{arith}
-use lib.Dec.{ltb, ltb→lt, nltb→le}
-use lib.ListN.{length, length-append}
-use Rattle.book.proofs.Choice.{cases, lt→true, ge→false}
+use Rattle.std.proofs.Common.{◌≡◌, ℕ, zero, suc, ◌/◌, ◌%◌, ◌^◌, ◌<◌, ◌≤◌, ltb, List, [], ◌∷◌, ◌++◌, length, sym, refl, ap, ◌∙◌, pow-suc, arith, ltb→lt, nltb→le, length-append, le-ltb, lt-ltb}
+use Rattle.book.proofs.Choice.{cases}
 use Rattle.std.specs.Fmt.{decimal as printed}
 use Rattle.std.proofs.lemmas.Fmt.{decimal_by_steps}
 use Rattle.printing.specs.Text.{digit, digits, decimal}
@@ -17,11 +11,11 @@ use Rattle.printing.specs.Text.{digit, digits, decimal}
 digits_small : (k n : ℕ) → n < 10 → digits k n ≡ digit n ∷ []
 unfolding digits
 digits_small zero n h = refl
-digits_small (suc k) n h = rw (lt→true n 10 h) refl
+digits_small (suc k) n h = rw (lt-ltb n 10 h) refl
 
 digits_large : (k n : ℕ) → 10 ≤ n → digits (suc k) n ≡ digits k (n / 10) ++ (digit (n % 10) ∷ [])
 unfolding digits
-digits_large k n h = rw (ge→false n 10 h) refl
+digits_large k n h = rw (le-ltb n 10 h) refl
 
 digits_same : (k j n : ℕ) → n ≤ k → n ≤ j → digits k n ≡ digits j n
 digits_same zero j n h g = digits_small zero n (omega arith) ∙ sym (digits_small j n (omega arith))

@@ -1,6 +1,5 @@
 -- A printed line, part by part: a line takes 25 bytes at most, and no word of an answer has more than eight letters.
-use Rattle.std.proofs.Common.{arith, List, [], ◌∷◌, ◌++◌, ℕ, ◌+◌, ◌^◌, ◌≤◌, ◌<◌, length, length-append}
-use lib.Dec.{lit≤}
+use Rattle.std.proofs.Common.{ℕ, ◌+◌, ◌^◌, ◌<◌, ◌≤◌, List, [], ◌∷◌, ◌++◌, length, arith, lit≤, length-append}
 use Rattle.words.specs.declared.Refusal.{Refusal}
 use Rattle.words.specs.declared.Refusal.TheVariants.{Unfit, Damaged, Badstep, Nodesk, Noblock, Stage, Owned, Nothing, Lost, Notlabel, Range, Worn, Full, Busy, Empty}
 use Rattle.words.specs.declared.Answer.{Answer}

@@ -1,10 +1,10 @@
 -- Round the NB blocks, counted back from the block of turn P: the block of a current turn, and the current turn of a block.
-use Rattle.std.proofs.Common.{◌≡◌, ℕ, ◌+◌, ◌-◌, ◌*◌, ◌/◌, ◌%◌, ◌≤◌, ◌<◌, Bool, true, ◌&&◌, leb, ltb, eqb, sym, ap, ◌∙◌, arith}
-use native.Mathlib.Nat.{mod-add-mod, mod-lt, add-mul-mod_self_right, div-add-mod'}
-use lib.Arith.{sub-sub_self}
-use lib.Dec.{leb→le, nleb→lt, ltb→lt, lt→ltb}
+use Rattle.std.proofs.Common.{◌≡◌, ℕ, ◌+◌, ◌-◌, ◌*◌, ◌/◌, ◌%◌, ◌<◌, ◌≤◌, Bool, true, ◌&&◌, eqb, ltb, leb, sym, ap, ◌∙◌, mod-lt, div-add-mod', arith, ltb→lt, lt→ltb, leb→le, ne_eqb}
+use Rattle.std.proofs.Math.Arith.{sub-sub_self}
+use Rattle.std.proofs.Math.Dec.{nleb→lt}
+use Rattle.std.proofs.Math.Nat.{mod-add-mod, add-mul-mod_self_right}
 use Rattle.book.specs.Sizes.{Size, block_of, current_turn}
-use Rattle.book.proofs.Choice.{cases, same_test, and_first, and_second, and_in, not→false, neq→eqb}
+use Rattle.book.proofs.Choice.{cases, same_test, and_first, and_second, and_in, not→false}
 use Rattle.book.proofs.Turns.{current_low, current_block, current_self}
 use Rattle.line.specs.Tests.{is_recent}
 use Rattle.ring.specs.declared.Ring.{Ring}
@@ -56,5 +56,5 @@ current_recent z p u pos =
     (λ e. let q = ltb→lt (p - u) z.nb (and_second (leb u p) (ltb (p - u) z.nb) e) in lt→ltb p (u + z.nb) (omega arith)))
     (λ s.
     let k = nleb→lt u p s in
-    neq→eqb (current_turn z p (block_of z u)) u (λ e. omega (arith, current_low z p (block_of z u)))
+    ne_eqb (current_turn z p (block_of z u)) u (λ e. omega (arith, current_low z p (block_of z u)))
     ∙ sym (ap (λ (b : Bool). b && ltb (p - u) z.nb) (not→false (leb u p) s)))

@@ -1,10 +1,7 @@
 -- The check: UNFIT, or what the head's rules say, and then those of one block after another, each asked over plain numbers.
-use Rattle.std.specs.Prelude.{Ok, Err, if◌then◌else◌}
-use Rattle.std.proofs.Common.{◌≡◌, refl, sym, ap, ◌∙◌, Bool, true, false, List, [], map, ℕ, suc, ◌+◌, ◌-◌, ◌*◌, ◌<◌, ◌≤◌, ltb, length, replicate, get_or, take, add-one, arith}
-use native.Mathlib.Nat.{sub-zero}
-use lib.Dec.{ltb→lt}
-use lib.ListN.{length-replicate}
-use lib.Seq.{get_or-take}
+use Rattle.std.proofs.Common.{◌≡◌, ℕ, suc, ◌+◌, ◌-◌, ◌*◌, ◌<◌, ◌≤◌, Bool, true, false, ltb, List, [], map, length, get_or, take, replicate, if◌then◌else◌, Ok, Err, sym, refl, ap, ◌∙◌, add-one, arith, ltb→lt, get_or-take}
+use Rattle.std.proofs.Math.ListN.{length-replicate}
+use Rattle.std.proofs.Math.Nat.{sub-zero}
 use Rattle.book.proofs.Choice.{and_second}
 use Rattle.line.specs.declared.Block.{Block}
 use Rattle.line.specs.declared.Fault.{Fault}

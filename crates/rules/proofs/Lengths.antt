@@ -1,11 +1,5 @@
 -- The numbers within their limits, and the lent lengths: n records of the table's 64, and the entries.
-use mathlib.Core.Path.{◌≡◌}
-use mathlib.Core.Bool.{Bool, true, ◌&&◌}
-use mathlib.Core.List.{List}
-use Prim.Native.Nat.{ℕ, ◌*◌, ◌≤◌}
-use native.Mathlib.Omega.{arith}
-use lib.Dec.{T, eqb, eqb→eq}
-use lib.ListN.{length}
+use Rattle.std.proofs.Common.{◌≡◌, ℕ, ◌*◌, ◌≤◌, Bool, true, ◌&&◌, T, eqb, List, length, arith, eqb→eq}
 use Rattle.book.specs.Sizes.{Size, fits}
 use Rattle.book.proofs.Choice.{and_first, and_second}
 use Rattle.line.specs.declared.Block.{Block}

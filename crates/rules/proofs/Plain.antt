@@ -1,6 +1,5 @@
 -- The rules over plain numbers are those of the line that was lent, whatever its entries.
-use Rattle.std.proofs.Common.{◌≡◌, refl, sym, ap, ap₂, ◌∙◌, Bool, true, false, not, ◌&&◌, List, [], map, ℕ, ◌-◌, ◌*◌, ◌%◌, ◌<◌, ◌≤◌, leb, eqb, get_or, drop, count_by}
-use native.Mathlib.Nat.{mod-lt}
+use Rattle.std.proofs.Common.{◌≡◌, ℕ, ◌-◌, ◌*◌, ◌%◌, ◌<◌, ◌≤◌, Bool, true, false, not, ◌&&◌, eqb, leb, List, [], map, get_or, drop, count_by, sym, refl, ap, ◌∙◌, ap₂, mod-lt}
 use Rattle.book.specs.Total.{all}
 use Rattle.book.specs.Sizes.{Size, current_turn}
 use Rattle.book.proofs.Choice.{cases, T→true, not→false}

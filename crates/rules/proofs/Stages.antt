@@ -1,16 +1,10 @@
 -- What a desk's stage says: 0 is idle, 1 looked, 2 claimed, 3 fetched; a number above 3 is no stage, and reads as idle.
-use Rattle.std.specs.Prelude.{if◌then◌else◌}
-use mathlib.Core.Path.{◌≡◌, refl, sym, ap, ap₂, subst, ◌∙◌}
-use mathlib.Core.Logic.{◌≢◌}
-use mathlib.Core.Bool.{Bool, true, false, ◌&&◌, ◌||◌}
-use mathlib.Core.List.{List, [], ◌∷◌}
-use Prim.Native.Nat.{ℕ, zero, suc, ◌<◌}
-use native.Mathlib.Omega.{arith}
-use lib.Dec.{T, leb, eqb}
+use Rattle.std.proofs.Math.Bool.{and-false}
+use Rattle.std.proofs.Common.{◌≡◌, ℕ, zero, suc, ◌<◌, Bool, true, false, ◌&&◌, ◌||◌, T, eqb, leb, ◌≢◌, List, [], ◌∷◌, if◌then◌else◌, sym, refl, ap, ◌∙◌, subst, ap₂, arith}
 use borrow.Author.Tests.{ne_eqb, lt-leb}
 use Rattle.book.specs.Total.{any}
 use Rattle.book.specs.Steps.{Hold, Desk, idle, looked, holding, claimed_at, with_fetched}
-use Rattle.book.proofs.Choice.{by_test, and_false}
+use Rattle.book.proofs.Choice.{by_test}
 use Rattle.line.specs.declared.Desk.{Desk as LentDesk}
 use Rattle.line.specs.Line.{Spot, desk_of, spot_of}
 use Rattle.line.specs.Tests.{clashes, holds_at, is_idle}
@@ -64,7 +58,7 @@ pub stray : (o : Desk Spot → Bool) (x : LentDesk) → x.stage ≢ 0 → (leb x
 unfolding desk_of
 stray o =
     by_stage (λ x. x.stage ≢ 0 → (leb x.stage 3 && o (desk_of x) && is_idle (desk_of x)) ≡ false) (λ s k. absurd (k refl))
-    (λ s k. and_false (o (looked s))) (λ s k. and_false (o (holding (claimed_at s)))) (λ s k. and_false (o (holding (with_fetched (claimed_at s))))) (λ s n w k. rw w.above)
+    (λ s k. and-false (o (looked s))) (λ s k. and-false (o (holding (claimed_at s)))) (λ s k. and-false (o (holding (with_fetched (claimed_at s))))) (λ s n w k. rw w.above)
 
 -- ---- the turn in which a desk has claimed or fetched: below the number that stands for none, it counts as the desk that holds in it
 

@@ -1,11 +1,11 @@
 -- Along the desks by their places.
-use Rattle.std.proofs.Common.{◌≡◌, refl, sym, ap, ap₂, ◌∙◌, Bool, true, false, not, ◌&&◌, ◌||◌, List, [], ◌∷◌, map, ℕ, zero, suc, ◌+◌, ◌-◌, ◌*◌, ◌%◌, ◌≤◌, ◌<◌, eqb, length, get_or, drop, count_by, if◌then◌else◌, add-one, arith}
+use Rattle.std.proofs.Common.{◌≡◌, ℕ, zero, suc, ◌+◌, ◌-◌, ◌*◌, ◌%◌, ◌<◌, ◌≤◌, Bool, true, false, not, ◌&&◌, ◌||◌, eqb, List, [], ◌∷◌, map, length, get_or, drop, if◌then◌else◌, count_by, sym, refl, ap, ◌∙◌, ap₂, add-one, arith, drop_of_length-le, drop-cons}
+use Rattle.std.proofs.Math.Seq.{drop-nil}
+use Rattle.std.proofs.Math.Bool.{and-false}
 use Rattle.std.proofs.lemmas.List.Sums.{sum_by-cons}
-use lib.ListN.{drop_of_length-le}
-use lib.Seq.{drop-cons, drop-nil}
 use Rattle.book.specs.Total.{total, any, all}
 use Rattle.book.specs.Steps.{Desk, idle, looked, holding}
-use Rattle.book.proofs.Choice.{cases, T→true, not→false, and_false}
+use Rattle.book.proofs.Choice.{cases, T→true, not→false}
 use Rattle.line.specs.declared.Desk.{Desk as LentDesk}
 use Rattle.line.specs.Line.{Spot, numbers_of, desk_of}
 use Rattle.line.specs.Rules.{held_in}
@@ -84,7 +84,7 @@ module _ (f g : LentDesk → Bool) where
   unfolding all
   stray_of x xs e =
       cases (f x)
-      (λ s. rw (T→true (f x) s, rw (T→true (f x) s) at e) (and_false (all f xs)))
+      (λ s. rw (T→true (f x) s, rw (T→true (f x) s) at e) (and-false (all f xs)))
       (λ s. rw (not→false (f x) s))
 
   module _ (ds : List LentDesk) (t d : ℕ) where

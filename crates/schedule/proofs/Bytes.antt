@@ -1,9 +1,8 @@
 -- What holds of the bytes that are read: a header is eight bytes, and the steps that are left behind the first i are
 -- the next one and those behind it.
-use Rattle.std.proofs.Common.{◌≡◌, refl, sym, ap, ◌∙◌, Bool, true, false, if◌then◌else◌, Some, None, List, [], ◌∷◌, ℕ, zero, suc, ◌+◌, ◌-◌, ◌*◌, ◌%◌, ◌≤◌, ◌<◌, length, arith}
-use native.Mathlib.Nat.{sub-zero}
+use Rattle.std.proofs.Common.{◌≡◌, ℕ, zero, suc, ◌+◌, ◌-◌, ◌*◌, ◌%◌, ◌<◌, ◌≤◌, Bool, true, false, T, leb, List, [], ◌∷◌, length, if◌then◌else◌, Some, None, sym, refl, ap, ◌∙◌, arith, leb→le}
+use Rattle.std.proofs.Math.Nat.{sub-zero}
 use borrow.Author.Tests.{eqb-false, not-true}
-use lib.Dec.{T, leb, leb→le}
 use Rattle.book.specs.Choice.{◌≡ᵇ◌}
 use Rattle.book.specs.declared.Size.{Size}
 use Rattle.book.specs.Steps.{Step}

@@ -1,5 +1,5 @@
 -- The cases of specs/Cases.antt, by computing.
-use mathlib.Core.Path.{refl}
+use Rattle.std.proofs.Common.{refl}
 use Rattle.schedule.specs.Bytes.{is_header, steps_from, steps_of, bytes_of_all}
 use Rattle.schedule.specs.Cases.{HeaderCases, NumberCases, CodeCases, CutCases, LimitCases}
 

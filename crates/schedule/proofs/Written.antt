@@ -1,9 +1,8 @@
 -- A schedule that is written is read back: its header, its numbers, its steps, and none of them cut short.
-use Rattle.std.proofs.Common.{◌≡◌, refl, ap₂, subst, ◌∙◌, true, false, List, [], ◌∷◌, ◌++◌, append_assoc, ℕ, ◌+◌, ◌-◌, ◌*◌, ◌%◌, arith, length, length-append}
+use Rattle.std.proofs.Common.{◌≡◌, refl, ap₂, subst, ◌∙◌, true, false, List, [], ◌∷◌, ◌++◌, append_assoc, ℕ, ◌+◌, ◌-◌, ◌*◌, ◌%◌, arith, length, length-append, le-leb}
 use Rattle.schedule.proofs.Behind.{step_behind}
 use Rattle.book.specs.declared.Size.{Size}
 use Rattle.book.specs.Steps.{Step}
-use Rattle.book.proofs.Choice.{le→true}
 use Rattle.schedule.specs.Bytes.{header_bytes, step_bytes, number_at, is_header, size_in, step_at, steps_from, whole_steps, steps_of, is_cut, bytes_in, bytes_of, header_of, bytes_of_all, schedule_of}
 
 -- ---- a step
@@ -35,7 +34,7 @@ steps_bytes (s ∷ ss) = let e = length-append (bytes_of s) (bytes_of_all ss) in
 module _ (z : Size) (ss : List Step) where
   pub header_read : is_header (schedule_of z ss) ≡ true
   unfolding is_header
-  header_read = rw (le→true header_bytes (length (schedule_of z ss)) (omega arith)) refl
+  header_read = rw (le-leb header_bytes (length (schedule_of z ss)) (omega arith)) refl
 
   pub size_read : size_in (schedule_of z ss) ≡ z
   size_read = refl

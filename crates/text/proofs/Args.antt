@@ -1,7 +1,6 @@
 -- The numbers of a line, gathered word by word.
-use Rattle.std.proofs.Common.{◌≡◌, refl, sym, ap, ◌∙◌, List, [], ◌∷◌, ◌++◌, append-nil, append_assoc, ℕ, ◌+◌, ◌≤◌, length, length-append, arith, Option, Some, None}
+use Rattle.std.proofs.Common.{◌≡◌, refl, sym, ap, ◌∙◌, List, [], ◌∷◌, ◌++◌, append-nil, append_assoc, ℕ, ◌+◌, ◌≤◌, length, length-append, arith, Option, Some, None, ne_eqb}
 use Rattle.std.specs.Option.{option_map}
-use Rattle.book.proofs.Choice.{neq→eqb}
 use Rattle.text.specs.declared.items.Args.{Args}
 use Rattle.text.specs.Pieces.{number, numbers_of}
 use Rattle.text.specs.Items.{args_of}
@@ -15,7 +14,7 @@ args_more (a ∷ b ∷ []) n = refl
 args_more (a ∷ b ∷ c ∷ ns) n =
     let m = length (a ∷ b ∷ c ∷ ns) in
     let e : m + 1 ≡ length ((a ∷ b ∷ c ∷ ns) ++ (n ∷ [])) = sym (length-append (a ∷ b ∷ c ∷ ns) (n ∷ [])) in
-    rw (neq→eqb m 0 (λ f. omega arith), neq→eqb m 1 (λ f. omega arith), neq→eqb m 2 (λ f. omega arith), e) refl
+    rw (ne_eqb m 0 (λ f. omega arith), ne_eqb m 1 (λ f. omega arith), ne_eqb m 2 (λ f. omega arith), e) refl
 
 -- the words up to those that are left are numbers, and gathered
 pub record Gathered (all left : List (List ℕ)) (r : Args) : Type 0 where

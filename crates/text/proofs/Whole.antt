@@ -1,6 +1,5 @@
 -- The whole text, line by line: how long a schedule of a shelf is, and what was written so far.
-use Rattle.std.proofs.Common.{◌≡◌, refl, sym, ap, subst, ◌∙◌, false, List, [], ◌∷◌, ◌++◌, ℕ, suc, ◌+◌, ◌≤◌, ◌<◌, length, take, drop, length-append, zero-add, arith, Result, Ok, Err, take_at}
-use Rattle.book.proofs.Choice.{lt→true, ge→false}
+use Rattle.std.proofs.Common.{◌≡◌, refl, sym, ap, subst, ◌∙◌, false, List, [], ◌∷◌, ◌++◌, ℕ, suc, ◌+◌, ◌≤◌, ◌<◌, length, take, drop, length-append, zero-add, arith, Result, Ok, Err, take_at, lt-ltb, le-ltb}
 use Rattle.printing.specs.declared.Page.{Page}
 use Rattle.printing.specs.Writes.{Writes}
 use Rattle.printing.specs.Page.{Wrote}
@@ -78,12 +77,12 @@ going_refuses n done x ls line w e f = rw (← e, ← f) refl
 going_full : (n : ℕ) (done x : List ℕ) (ls : List (List ℕ)) (line : List ℕ) (i : Item) → line ≡ bare x → Ok i ≡ item line
     → room_bytes < length (done ++ said line (section ls) i) → going n done (x ∷ ls) ≡ refused n Room
 unfolding going
-going_full n done x ls line i e f h = rw (← e, ← f, lt→true room_bytes (length (done ++ said line (section ls) i)) h) refl
+going_full n done x ls line i e f h = rw (← e, ← f, lt-ltb room_bytes (length (done ++ said line (section ls) i)) h) refl
 
 going_on : (n : ℕ) (done x : List ℕ) (ls : List (List ℕ)) (line : List ℕ) (i : Item) → line ≡ bare x → Ok i ≡ item line
     → length (done ++ said line (section ls) i) ≤ room_bytes → going n done (x ∷ ls) ≡ going (suc n) (done ++ said line (section ls) i) ls
 unfolding going
-going_on n done x ls line i e f h = rw (← e, ← f, ge→false room_bytes (length (done ++ said line (section ls) i)) h) refl
+going_on n done x ls line i e f h = rw (← e, ← f, le-ltb room_bytes (length (done ++ said line (section ls) i)) h) refl
 
 going_none : (n : ℕ) (done : List ℕ) → going n done [] ≡ bytes done
 unfolding going
@@ -148,11 +147,11 @@ module _ (t : List ℕ) (before : Page) (number : ℕ) (rest : List ℕ) (page :
 
 pub long_text : (t before : List ℕ) → text_limit < length t → (Err TooLong, before) ≡ outcome (meaning t) before
 unfolding meaning
-long_text t before h = rw (lt→true text_limit (length t) h) refl
+long_text t before h = rw (lt-ltb text_limit (length t) h) refl
 
 pub short_text : (t : List ℕ) → length t ≤ text_limit → meaning t ≡ going 1 [] (lines t)
 unfolding meaning
-short_text t h = rw (ge→false text_limit (length t) h) refl
+short_text t h = rw (le-ltb text_limit (length t) h) refl
 
 -- what a page took, where nothing stood on it
 module _ (p q : Page) (none : p.len ≡ 0) where

@@ -1,7 +1,7 @@
 -- The words of a line, one after the other: the first one, and those behind it.
-use Rattle.std.proofs.Common.{◌≡◌, refl, sym, ap, subst, ◌∙◌, true, false, List, [], ◌∷◌, ℕ, zero, suc, ◌+◌, ◌≤◌, ◌<◌, length, length-append, length-drop, arith, T, eqb, eqb→eq, take-append-drop}
+use Rattle.std.proofs.Common.{◌≡◌, refl, sym, ap, subst, ◌∙◌, true, false, List, [], ◌∷◌, ℕ, zero, suc, ◌+◌, ◌≤◌, ◌<◌, length, length-append, length-drop, arith, T, eqb, eqb→eq, take-append-drop, true≢false}
 use Rattle.std.specs.List.{position_or_len}
-use Rattle.book.proofs.Choice.{cases, T→true, not→false, true_not_false, by_order}
+use Rattle.book.proofs.Choice.{cases, T→true, not→false, by_order}
 use Rattle.text.specs.Pieces.{is_blank, is_letter, skip, word, behind, is_none, words_up_to, words}
 
 pub none_long : (w : List ℕ) → 1 ≤ length w → is_none w ≡ false
@@ -76,7 +76,7 @@ pub zero_is : (n : ℕ) → true ≡ eqb n 0 → n ≡ 0
 zero_is n h = eqb→eq n 0 (subst T h tt)
 
 pub some_is : (n : ℕ) → false ≡ eqb n 0 → 1 ≤ n
-some_is n h = by_order n 0 (λ g. absurd (omega arith)) (λ e. absurd (true_not_false (sym (h ∙ ap (λ k. eqb k 0) e)))) (λ g. omega arith)
+some_is n h = by_order n 0 (λ g. absurd (omega arith)) (λ e. absurd (true≢false (sym (h ∙ ap (λ k. eqb k 0) e)))) (λ g. omega arith)
 
 module _ (l w : List ℕ) (is : w ≡ word l) where
   pub words_end : true ≡ eqb (length w) 0 → words l ≡ []

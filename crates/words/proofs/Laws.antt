@@ -1,8 +1,7 @@
 -- What holds of the answers as a whole.
-use Rattle.std.proofs.Common.{◌≡◌, refl, sym, ◌∙◌, Bool, true, not, ◌&&◌, List, [], ◌∷◌, ◌++◌, map, ℕ, length, replicate}
-use Prim.Native.String.{String}
-use lib.Dec.{leb}
+use Rattle.std.proofs.Common.{◌≡◌, ℕ, Bool, true, not, ◌&&◌, leb, List, [], ◌∷◌, ◌++◌, map, length, replicate, sym, refl, ◌∙◌}
 use lib.Text.{eqt}
+use Prim.Native.String.{String}
 use Rattle.words.specs.Words.{Refusal, Answer, Refused, said, letters}
 use Rattle.words.specs.Spelling.{answers, words, Spelling}
 use Rattle.words.specs.Promises.{Numbered, Valued, Worded}

@@ -1,6 +1,5 @@
 -- The store's first entries are lent twice: to opening, which clears them or refuses, and then to the steps.
-use lib.Dec.{T}
-use Rattle.std.proofs.Common.{◌≡◌, ◌++◌, ap, length, take, drop}
+use Rattle.std.proofs.Common.{◌≡◌, T, ◌++◌, length, take, drop, ap}
 use Rattle.book.specs.Sizes.{fits}
 use Rattle.line.specs.Line.{opened}
 use Rattle.byvalue.specs.Lent.{line_of}
