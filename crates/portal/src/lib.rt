@@ -21,8 +21,7 @@
 // `words::number`, `words::value` and `words::word` tell an answer's number, value and word. Each
 // call's promise is one equation with the line's own definitions: specs/Promises.antt.
 //
-// Head, table and entries come one by one, and so do the numbers of `open` and `step`: the C interface lends and gives
-// them so, and so the README writes the calls.
+// Head, table and entries come one by one, and so do the numbers of `open` and `step`, as they cross the C interface.
 ghost use Rattle.engine.specs.Promises.{GivesOpening, GivesStep, GivesOrder};
 ghost use Rattle.portal.specs.Lending.{Lends};
 ghost use Rattle.portal.specs.Promises.{lent, the_size, the_step, Opens, Steps, Orders, Checks, Surveys};
