@@ -1,5 +1,7 @@
 -- Laws of a choice by a test: to prove something of it, of two of them side by side, and to put a known test in.
-use Rattle.std.proofs.Common.{◌≡◌, ℕ, ◌<◌, ◌≤◌, Bool, true, false, cond, not, ◌&&◌, T, eqb, ltb, leb, ◌≢◌, Ok, Err, sym, refl, subst, arith, le→leb, eqb→eq, ltb→lt, lt→ltb, leb→le, nltb→le, T_not}
+use Rattle.std.proofs.Common.{◌≡◌, ℕ, ◌<◌, ◌≤◌, Bool, true, false, cond, not, ◌&&◌, T, eqb, ltb, leb, ◌≢◌, Ok, Err, sym, refl, subst, arith, eqb→eq, ltb→lt, nltb→le, T_not, ne_eqb, lt-ltb, le-ltb, le-leb, true≢false}
+use Rattle.std.proofs.lemmas.Bool.{lt-leb}
+use Rattle.std.proofs.Math.Bool.{and-false}
 use Rattle.std.proofs.Math.Dec.{eqb_refl}
 use Rattle.words.specs.declared.Refusal.{Refusal}
 use Rattle.book.specs.Verdicts.{Verdict, takes, refuses, judge}
@@ -53,7 +55,7 @@ not→false true t = absurd t
 not→false false t = refl
 
 pub true_not_false : true ≡ false → ⊥
-true_not_false e = subst T e tt
+true_not_false = true≢false
 
 -- two tests are equal if each follows from the other
 pub same_test : (a b : Bool) → (T a → T b) → (T b → T a) → a ≡ b
@@ -75,8 +77,7 @@ and_in true b s t = t
 and_in false b s t = absurd s
 
 pub and_false : (a : Bool) → (a && false) ≡ false
-and_false true = refl
-and_false false = refl
+and_false = and-false
 
 -- ---- the tests of numbers
 
@@ -87,22 +88,22 @@ pub neq_test : (m n : ℕ) → T (not (eqb m n)) → m ≢ n
 neq_test m n t e = T_not (eqb m n) t (eq→eqb m n e)
 
 pub neq→eqb : (m n : ℕ) → m ≢ n → eqb m n ≡ false
-neq→eqb m n h = cases (eqb m n) (λ t. absurd (h (eqb→eq m n t))) (λ t. not→false (eqb m n) t)
+neq→eqb = ne_eqb
 
 pub eqb_same : (n : ℕ) → eqb n n ≡ true
 eqb_same n = T→true (eqb n n) (eqb_refl n)
 
 pub lt→true : (m n : ℕ) → m < n → ltb m n ≡ true
-lt→true m n h = T→true (ltb m n) (lt→ltb m n h)
+lt→true = lt-ltb
 
 pub ge→false : (m n : ℕ) → n ≤ m → ltb m n ≡ false
-ge→false m n h = cases (ltb m n) (λ t. absurd (let g = ltb→lt m n t in omega arith)) (λ t. not→false (ltb m n) t)
+ge→false = le-ltb
 
 pub le→true : (m n : ℕ) → m ≤ n → leb m n ≡ true
-le→true m n h = T→true (leb m n) (le→leb m n h)
+le→true = le-leb
 
 pub gt→false : (m n : ℕ) → n < m → leb m n ≡ false
-gt→false m n h = cases (leb m n) (λ t. absurd (let g = leb→le m n t in omega arith)) (λ t. not→false (leb m n) t)
+gt→false = lt-leb
 
 -- a proof by how two numbers stand
 pub by_order {ℓ} : {C : Type ℓ} (a b : ℕ) → (a < b → C) → (a ≡ b → C) → (b < a → C) → C

@@ -1,14 +1,9 @@
 -- Laws of what is given back: the lent records are put back in front, and the others stay as they are.
-use mathlib.Core.Path.{◌≡◌, refl, sym, ap}
-use mathlib.Core.List.{List}
-use Prim.Native.Nat.{ℕ, ◌≤◌, ◌<◌}
-use lib.Dec.{leb, leb→le}
-use lib.ListN.{set, drop, take-append-drop}
-use lib.Seq.{drop-set-lt}
+use Rattle.std.proofs.Common.{◌≡◌, ℕ, ◌<◌, ◌≤◌, leb, List, drop, set, sym, refl, ap, leb→le, take-append-drop, drop-set-lt, le-leb}
 use Rattle.words.specs.declared.Answer.{Answer}
 use Rattle.words.specs.declared.Answer.TheVariants.{Refused}
 use Rattle.words.specs.declared.Refusal.{Refusal}
-use Rattle.book.proofs.Choice.{cases, not→false, le→true}
+use Rattle.book.proofs.Choice.{cases, not→false}
 use Rattle.line.specs.declared.Block.{Block}
 use Rattle.line.specs.declared.Head.{Head}
 use Rattle.line.specs.Line.{says, refuse}
@@ -20,7 +15,7 @@ module _ (n : ℕ) (few : n ≤ 64) where
   -- where u is t but for the lent records
   put_back_lem : (t u : List Block) → drop n u ≡ drop n t → put_back t n (lent_table u n) ≡ u
   unfolding put_back
-  put_back_lem t u e = rw (lent_take n few u, le→true n 64 few, ← e) (take-append-drop n u)
+  put_back_lem t u e = rw (lent_take n few u, le-leb n 64 few, ← e) (take-append-drop n u)
 
   pub put_set : (t : List Block) (i : ℕ) (c : Block) → i < n → put_back t n (set (lent_table t n) i c) ≡ set t i c
   put_set t i c h = rw (← lent_set n few t i c h) (put_back_lem t (set t i c) (drop-set-lt n t i c h))

@@ -1,12 +1,8 @@
 -- Laws of the lent table: the first n of the 64 records are the line's.
-use mathlib.Core.Path.{◌≡◌}
-use mathlib.Core.List.{List}
-use Prim.Native.Nat.{ℕ, ◌≤◌, ◌<◌}
-use native.Mathlib.Omega.{arith}
-use lib.Dec.{leb, leb→le}
-use lib.ListN.{length, get_or, set, take, length-replicate}
-use lib.Seq.{get_or-take, length-take-le, take-set-lt}
-use Rattle.book.proofs.Choice.{by_test, le→true}
+use Rattle.std.proofs.Common.{◌≡◌, ℕ, ◌<◌, ◌≤◌, leb, List, length, get_or, take, set, arith, leb→le, length-take-le, get_or-take, le-leb}
+use Rattle.std.proofs.Math.ListN.{length-replicate}
+use Rattle.std.proofs.Math.Seq.{take-set-lt}
+use Rattle.book.proofs.Choice.{by_test}
 use Rattle.line.specs.declared.Block.{Block}
 use Rattle.line.specs.Line.{unused}
 use Rattle.byvalue.specs.Lent.{lent_table}
@@ -14,7 +10,7 @@ use Rattle.byvalue.specs.Lent.{lent_table}
 module _ (n : ℕ) (few : n ≤ 64) where
   pub lent_take : (t : List Block) → lent_table t n ≡ take n t
   unfolding lent_table
-  lent_take t = rw (le→true n 64 few)
+  lent_take t = rw (le-leb n 64 few)
 
   pub lent_at : (t : List Block) (i : ℕ) (d : Block) → i < n → get_or (lent_table t n) i d ≡ get_or t i d
   lent_at t i d h = rw (lent_take t) (get_or-take n t i d h)

@@ -1,10 +1,5 @@
 -- What a sound line, lent with its NB records, says of the numbers that a step computes with.
-use mathlib.Core.Path.{◌≡◌, sym}
-use mathlib.Core.List.{List}
-use Prim.Native.Nat.{ℕ, ◌*◌, ◌%◌, ◌≤◌, ◌<◌}
-use native.Mathlib.Nat.{mod-lt}
-use native.Mathlib.Omega.{arith}
-use lib.ListN.{get_or}
+use Rattle.std.proofs.Common.{◌≡◌, ℕ, ◌*◌, ◌%◌, ◌<◌, ◌≤◌, List, get_or, sym, mod-lt, arith}
 use Rattle.book.specs.Sizes.{Size}
 use Rattle.line.specs.declared.Block.{Block}
 use Rattle.line.specs.declared.Head.{Head}

@@ -6,6 +6,9 @@
 // Here is what every call by value shares: what it gives (`Outcome`), where a place stands among the entries
 // (`entries`), and the records of a line that is opened. specs/Lent.antt says which line is lent,
 // specs/GivenBack.antt what is given back, and specs/Ready.antt what the check has shown.
+//
+// Nothing is allocated: the table has a fixed size, and the number n goes with it. `Ready` stays a clause of the steps: it is
+// a fact of head, table and entries, and the entries are lent apart, so a type of the other two would leave a clause on them.
 pub mod entries;
 
 ghost use Rattle.std.specs.Prelude.{◌≡◌, replicate};

@@ -28,7 +28,7 @@ use line::{Block, Desk, Head, Moved};
 use ring::{Ring, block_of};
 use words::{Answer, Refusal};
 
-// The step's column of the grid.
+// The step's column of the grid, which the customer has indexed by stage and step.
 fn column_of(s: DeskStep) -> usize
     ensures { (result ≡ column s) × (result < 4) }
 {

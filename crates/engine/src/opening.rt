@@ -25,9 +25,9 @@ pub fn open(
             table,
         };
     }
-    entries.fill(0);
     let mut records = table;
     records[..n].fill(unused());
+    entries.fill(0);
     Outcome {
         answer: Ok(()),
         head,

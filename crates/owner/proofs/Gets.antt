@@ -1,17 +1,10 @@
 -- A get on a lent line: the walk from K on, and what is read where it stops.
-use mathlib.Core.Path.{◌≡◌, refl, sym, ap, ◌∙◌}
-use mathlib.Core.Bool.{Bool, true, false, not, ◌&&◌}
-use mathlib.Core.List.{List}
-use Prim.Native.Nat.{ℕ, zero, suc, ◌+◌, ◌-◌, ◌*◌, ◌%◌, ◌≤◌, ◌<◌}
-use native.Mathlib.Numerals.{add-one}
-use native.Mathlib.Omega.{arith}
-use lib.Dec.{T, ltb→lt}
-use lib.ListN.{get_or}
+use Rattle.std.proofs.Common.{◌≡◌, ℕ, zero, suc, ◌+◌, ◌-◌, ◌*◌, ◌%◌, ◌<◌, ◌≤◌, Bool, true, false, not, ◌&&◌, T, List, get_or, sym, refl, ap, ◌∙◌, add-one, arith, ltb→lt}
 use Rattle.words.specs.declared.Refusal.TheVariants.{Empty}
 use Rattle.words.specs.declared.Answer.TheVariants.{Got, Refused}
 use Rattle.book.specs.Choice.{◌<ᵇ◌, ◌≡ᵇ◌}
 use Rattle.book.specs.Sizes.{Size}
-use Rattle.book.proofs.Choice.{and_second, lt→true, ge→false}
+use Rattle.book.proofs.Choice.{and_second}
 use Rattle.line.specs.declared.Block.{Block}
 use Rattle.line.specs.declared.Head.{Head}
 use Rattle.line.specs.Line.{Line, Spot, unused, size_of, get_at, record_of, entry_of, label_at, moves_on, taken_over, reach, read_at, get_step}

@@ -1,22 +1,14 @@
 -- A put on a lent line, over the numbers and the two records that the code reads.
-use Rattle.std.specs.Prelude.{Result, Ok, Err}
-use mathlib.Core.Path.{◌≡◌, refl, sym, ap, subst, ◌∙◌}
-use mathlib.Core.Bool.{Bool, true, false}
-use mathlib.Core.List.{List}
-use Prim.Native.Nat.{ℕ, suc, ◌+◌, ◌-◌, ◌*◌, ◌/◌, ◌%◌, ◌≤◌, ◌<◌}
-use native.Mathlib.Numerals.{add-one}
-use native.Mathlib.Omega.{arith}
-use native.Mathlib.Nat.{mod-eq-sub-mod}
-use lib.Dec.{leb, ltb→lt, nleb→lt}
-use lib.ListN.{get_or, set, drop}
-use lib.Seq.{drop-set-lt}
+use Rattle.std.proofs.Common.{◌≡◌, ℕ, suc, ◌+◌, ◌-◌, ◌*◌, ◌/◌, ◌%◌, ◌<◌, ◌≤◌, Bool, true, false, leb, List, get_or, drop, set, Ok, Err, Result, sym, refl, ap, ◌∙◌, subst, add-one, arith, ltb→lt, drop-set-lt, le-ltb}
+use Rattle.std.proofs.Math.Dec.{nleb→lt}
+use Rattle.std.proofs.Math.Nat.{mod-eq-sub-mod}
 use Rattle.words.specs.declared.Refusal.{Refusal}
 use Rattle.words.specs.declared.Refusal.TheVariants.{Notlabel, Worn}
 use Rattle.words.specs.declared.Answer.TheVariants.{Put, Refused}
 use Rattle.book.specs.Choice.{◌<ᵇ◌}
 use Rattle.book.specs.Sizes.{Size, is_label}
 use Rattle.book.specs.Verdicts.{Verdict, takes, refuses, judge, startable, placeable}
-use Rattle.book.proofs.Choice.{by_test, cases, T→true, not→false, ge→false}
+use Rattle.book.proofs.Choice.{by_test, cases, T→true, not→false}
 use Rattle.line.specs.declared.Block.{Block}
 use Rattle.line.specs.declared.Head.{Head}
 use Rattle.line.specs.declared.Room.{Room}
@@ -48,7 +40,7 @@ pub round_fits : (z : Size) (p written k : ℕ) (b : Bool) (a : ℕ) → placeab
 unfolding placeable
 round_fits z p written k b a e n =
     cases (is_label a)
-    (λ s. start_round z k (p + 1) b (rw (T→true (is_label a) s, ge→false written z.ne n) at e))
+    (λ s. start_round z k (p + 1) b (rw (T→true (is_label a) s, le-ltb written z.ne n) at e))
     (λ s. absurd (refuses_not Notlabel (rw (not→false (is_label a) s) at e)))
 
 -- a room where the verdict takes, its refusal where it refuses

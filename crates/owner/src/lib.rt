@@ -106,11 +106,9 @@ fn may_put(h: &Head, current: Block, old: Block, a: u32) -> Result<(), Refusal>
 fn room_for(h: &Head, table: &[Block; 64], here: usize, a: u32) -> Result<Room, Refusal>
     requires sizes { (1 ≤ h.now.nb) × (h.now.nb ≤ 64) × (h.now.ne ≤ 64) × (h.now.p < 65536 * 64) }
     requires stands { here ≡ h.now.p % h.now.nb }
-    ensures {
-        let current = get_or table.now here unused in
+    ensures { let current = get_or table.now here unused in
         let old = get_or table.now ((here + 1) % h.now.nb) unused in
-        result ≡ judge (placeable (size_of h.now) h.now.p current.written h.now.k (is_busy old) a) (Ok (room_of (size_of h.now) h.now.p current)) (λ w. Err w)
-    }
+        result ≡ judge (placeable (size_of h.now) h.now.p current.written h.now.k (is_busy old) a) (Ok (room_of (size_of h.now) h.now.p current)) (λ w. Err w) }
 {
     let nb = u32::from(h.nb);
     let next = block_after(here, nb);
@@ -157,6 +155,8 @@ fn moves_on(h: &Head, current: Block) -> bool
     !is_written(h.reading, current.written) && is_read(h.reading, h.ne) && h.k < h.p
 }
 
+// `Ready` is a clause and no type: docs/PROMISES.md names it as what this call asks for, and the entries, of which it
+// speaks too, are lent apart from head and table.
 pub fn put(h: Head, table: [Block; 64], entries: &mut [u32], a: u32) -> Outcome<Answer>
     requires { Ready h table entries.old }
     ensures { given_back result entries.new ≡ back_of table h.nb (put_step (size_of h) (line_of h table h.nb entries.old) a) }
@@ -179,7 +179,8 @@ pub fn put(h: Head, table: [Block; 64], entries: &mut [u32], a: u32) -> Outcome<
     }
 }
 
-// Puts a to b until one is refused. A line holds NB x NE labels, so there are at most that many puts and one.
+// Puts a to b until one is refused. A line holds NB x NE labels, so there are at most that many puts and one. `Ready` is a
+// clause for the reason that `put` has.
 pub fn order(h: Head, table: [Block; 64], entries: &mut [u32], a: u32, b: u32) -> Outcome<Answer>
     requires { Ready h table entries.old }
     ensures { given_back result entries.new ≡ back_of table h.nb (order_step (size_of h) (line_of h table h.nb entries.old) a b) }
@@ -216,7 +217,7 @@ pub fn order(h: Head, table: [Block; 64], entries: &mut [u32], a: u32, b: u32) -
     }
 }
 
-// Moves from turn K to turn P at most, which by rule 1 is NB - 1 blocks.
+// Moves from turn K to turn P at most, which by rule 1 is NB - 1 blocks. `Ready` is a clause for the reason that `put` has.
 pub fn get(h: Head, table: [Block; 64], entries: &[u32]) -> Outcome<Answer>
     requires { Ready h table entries.now }
     ensures { given_back result entries.now ≡ back_of table h.nb (get_step (size_of h) (line_of h table h.nb entries.now)) }

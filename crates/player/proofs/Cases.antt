@@ -1,6 +1,6 @@
 -- The cases of specs/Cases.antt, a list at a time, by computing. A definition that is changed gives another text, and
 -- the list with such a case is refused.
-use mathlib.Core.Path.{refl, ap}
+use Rattle.std.proofs.Common.{refl, ap}
 use Rattle.line.proofs.Cases.{calls}
 use Rattle.schedule.specs.Bytes as B
 use Rattle.player.specs.Spoken as S

@@ -1,16 +1,13 @@
 -- The only line of a schedule that is refused whole, written as the word's line.
-use mathlib.Core.Path.{◌≡◌}
-use mathlib.Core.List.{List, append-nil}
-use Prim.Native.Nat.{ℕ}
 use Prim.Native.String.{String}
-use Rattle.words.specs.declared.Letters.{Letters}
-use Rattle.words.specs.Words.{letters, spelled}
+use Rattle.std.proofs.Common.{append-nil}
+use Rattle.words.specs.Words.{letters}
 use Rattle.printing.specs.Text.{line_text}
-use Rattle.printing.specs.Writes.{Writes, letters_of}
-use Rattle.printing.proofs.Lines.{word_written}
+use Rattle.printing.specs.declared.Page.{Page}
+use Rattle.printing.specs.Page.{Wrote}
 use Rattle.player.specs.Spoken.{only}
 use Rattle.player.specs.Printed.{printed}
 
-pub only_written : (r : ℕ) (s : String) (w : Letters) (o o₁ : List ℕ) → w ≡ spelled s → Writes 0 (line_text 0 (letters_of w) 0) o r o₁ → Writes 0 (printed (only s)) o r o₁
+pub wrote_only : (w : String) (p q : Page) → Wrote (line_text 0 (letters w) 0) p q → Wrote (printed (only w)) p q
 unfolding printed
-only_written r s w o o₁ e p = rw (append-nil (line_text 0 (letters s) 0)) (word_written 0 0 0 r s w o o₁ e p)
+wrote_only w p q h = rw (append-nil (line_text 0 (letters w) 0)) h

@@ -1,9 +1,5 @@
 -- Any two outcomes that the promise of playing a schedule allows are equal; and what it says of the room.
-use mathlib.Core.Path.{◌≡◌, sym, ap, ◌∙◌}
-use mathlib.Core.List.{List}
-use Prim.Native.Nat.{ℕ, ◌≤◌}
-use native.Mathlib.Omega.{arith}
-use lib.ListN.{length, drop, length-append}
+use Rattle.std.proofs.Common.{◌≡◌, sym, ap, ◌∙◌, List, ℕ, ◌≤◌, arith, length, drop, length-append}
 use Rattle.player.specs.Printed.{text}
 use Rattle.player.specs.Promises.{Plays}
 

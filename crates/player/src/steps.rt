@@ -2,18 +2,18 @@
 ghost use Rattle.std.specs.Prelude.{◌≡◌, suc, ◌<◌};
 ghost use Rattle.byvalue.specs.Lent.{line_of};
 ghost use Rattle.printing.specs.Text.{numbers_below};
-ghost use Rattle.printing.specs.Writes.{Writes};
+ghost use Rattle.printing.specs.Page.{Wrote};
 ghost use Rattle.player.specs.Spoken.{run};
 ghost use Rattle.player.specs.Printed.{printed};
 ghost use Rattle.player.specs.Parts.{Playable};
 
-use crate::lines::write_cut;
 use engine::step::step;
 use line::{Block, Head};
-use printing::write_answer;
+use printing::Page;
 use schedule::reading::{is_cut, step_at, whole_steps};
+use schedule::{HEADER, STEP};
 
-// Steps are numbered from 1.
+// Steps are numbered from 1. A number is below 10,000, so the cast leaves it as it is, and no TryFrom can fail.
 fn number_of(i: usize) -> u32
     requires { suc i < numbers_below }
     ensures { result ≡ suc i }
@@ -24,29 +24,25 @@ fn number_of(i: usize) -> u32
 // A line for each whole step, and one for a step cut short.
 pub fn play_steps(
     input: &[u8],
-    out: &mut [u8],
+    page: &mut Page<'_>,
     opened: Head,
     records: [Block; 64],
     n: usize,
     entries: &mut [u32],
-) -> usize
-    requires { Playable input.now out.old (line_of opened records n entries.old) n }
-    ensures { Writes 0 (printed (run input.now (line_of opened records n entries.old))) out.old result out.new }
+)
+    requires { Playable input.now page.old (line_of opened records n entries.old) n }
+    ensures { Wrote (printed (run input.now (line_of opened records n entries.old))) page.old page.new }
 {
-    let count = whole_steps(input);
     let mut head = opened;
     let mut table = records;
-    let mut at = 0;
-    for i in 0..count {
-        let s = step_at(input, 8 + 9 * i);
+    for (i, bytes) in input[HEADER..].chunks_exact(STEP).enumerate() {
+        let s = step_at(bytes, 0);
         let went = step(head, table, n, entries, s.code, s.a, s.b);
         head = went.head;
         table = went.table;
-        let answer = went.answer;
-        at = write_answer(out, at, number_of(i), answer);
+        page.answer(number_of(i), went.answer);
     }
     if is_cut(input) {
-        return write_cut(out, at, number_of(count));
+        page.line(number_of(whole_steps(input)), "CUT", 0);
     }
-    at
 }

@@ -12,7 +12,6 @@ mod head;
 ghost use Rattle.rules.specs.Promises.{GivesCheck};
 
 use blocks::block_rules;
-use book::Size;
 use desks::held_turns;
 pub use head::fits;
 use head::head_rules;
@@ -23,12 +22,7 @@ use ring::Ring;
 pub fn check(h: Head, table: [Block; 64], n: usize, m: usize) -> Result<(), Fault>
     ensures { GivesCheck h table n m result }
 {
-    let size = Size {
-        nb: h.nb,
-        ne: h.ne,
-        t: h.t,
-    };
-    if !fits(size, n, m) {
+    if !fits(h.size(), n, m) {
         return Err(Fault::Unfit);
     }
     let ring = Ring::new(u32::from(h.nb), h.p);

@@ -30,7 +30,8 @@ pub enum Refusal {
     Empty = 15,
 }
 
-// A refusal's value is 0, except for an order's: the labels that it had placed.
+// A refusal's value is 0, except for an order's: the labels that it had placed. It stands beside the good answers, and is no
+// Err, since one table, `said`, has number, value and word of them all.
 #[derive(Clone, Copy, Debug, PartialEq, Eq)]
 pub enum Answer {
     Put(u32),

@@ -4,6 +4,7 @@ use Rattle.byvalue.proofs.Ready.{blocks}
 use Rattle.owner.proofs.Puts.{room_asks, room_below, room_stands, roomed_takes, roomed_refuses}
 use Rattle.owner.proofs.Orders.{order_range, none_placed, same_ne, whole, stopped, one_more}
 use Rattle.owner.proofs.order.Goals as goal
+use Rattle.owner.proofs.order.Goals.{else-loop-label-test, then-loop-label-test+in-Ok+else-label-b}
 
 pub returns-then-not-is_order : goal.returns-then-not-is_order
 returns-then-not-is_order c = rw c.refused.ensures (order_range _ _ _ _ _ (sym c.if-not-is_order.ensures))
@@ -45,4 +46,14 @@ pub overflow_sub-result : goal.overflow_sub-result
 overflow_sub-result c = omega (arith, c.loop-label.invariant.range)
 
 pub returns : goal.returns
-returns c = whole _ _ _ _ _ c.loop-label.invariant c.loop-label-test.false
+returns c =
+    let s = c.loop-label.invariant in
+    elim c.loop-label-test.branch [
+      | else-loop-label-test w ↦ rw (w.head-is, w.t-is, w.entries-is) (whole _ _ _ _ _ s w.loop-label-test.false)
+      | then-loop-label-test+in-Ok+else-label-b w ↦
+          rw (w.head-is, w.t-is, w.entries-is)
+          (let r = roomed_takes _ _ _ w.in-Ok.ensures in
+          let n = one_more _ _ _ _ _ s w.loop-label-test.true r.0
+          (record { room = r.1; entries = rw (c.from-ne.ensures, ← same_ne _ _ _ _ _ s) at w.write_label.ensures }) in
+          whole _ _ _ _ _ n (omega arith))
+    ]

@@ -1,5 +1,5 @@
 -- Where the room is asked for, turn P's block is known; each answer is then a law's.
-use Rattle.std.proofs.Common.{rules, arith}
+use Rattle.std.proofs.Common.{arith}
 use Rattle.byvalue.proofs.Ready.{blocks}
 use Rattle.owner.proofs.Puts.{Reads, room_asks, room_below, room_stands, roomed_takes, roomed_refuses, put_refused, put_taken}
 use Rattle.owner.proofs.put.Goals as goal

@@ -13,7 +13,7 @@ next_at c = rw c.from-nb.ensures at c.block_after-next.ensures.0
 
 taken : (c : In_ok-may_put)
     → (let h = c.args.h.now in let t = c.args.table.now in
-      placeable (size_of h) h.p (get_or t c.args.here unused).written h.k (is_busy (get_or t ((c.args.here + 1) % h.nb) unused)) c.args.a ≡ takes)
+    placeable (size_of h) h.p (get_or t c.args.here unused).written h.k (is_busy (get_or t ((c.args.here + 1) % h.nb) unused)) c.args.a ≡ takes)
 taken c = rw (← next_at c) (sym c.in_ok-may_put.ensures)
 
 pub returns-then-has_room : goal.returns-then-has_room
@@ -24,7 +24,7 @@ returns-then-has_room c =
 pub overflow_cast-result : goal.overflow_cast-result
 overflow_cast-result c =
     let r : (c.args.h.now.p + 1) / c.args.h.now.nb < 65536 =
-      round_fits _ _ _ _ _ _ (taken (goal.at.overflow_cast-result c).In_ok-may_put) (ltb-false _ _ (sym c.if-has_room.ensures)) in
+    round_fits _ _ _ _ _ _ (taken (goal.at.overflow_cast-result c).In_ok-may_put) (ltb-false _ _ (sym c.if-has_room.ensures)) in
     rw c.from-nb.ensures (omega arith)
 
 pub returns : goal.returns

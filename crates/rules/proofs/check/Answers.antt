@@ -1,6 +1,8 @@
 -- UNFIT, or what the head's rules say, or those of the first block of which one is broken.
 use Rattle.std.proofs.Common.{◌≡◌, ◌+◌, length, length-take, sym, ap, ◌∙◌, arith, rules}
 use Rattle.std.proofs.lemmas.Result.{err_from_is_err_and}
+use Rattle.book.specs.Sizes.{Size}
+use Rattle.line.specs.Tests.{fitting}
 use Rattle.line.specs.Check.{Checked}
 use Rattle.rules.proofs.First.{Fitted, is_unfit, is_fit, after, blocks_from, head_first, head_sound, block_said, no_more}
 use Rattle.rules.proofs.check.Goals as goal
@@ -8,10 +10,10 @@ use Rattle.rules.proofs.check.Goals.{Else-not-fits, After-block_rules}
 
 -- the numbers fit
 fitted : (c : Else-not-fits) → Fitted c.args.h c.args.table c.args.n c.args.m
-fitted c = is_fit c.args.h c.args.table c.args.n c.args.m (search rules) _ c.fits.ensures c.if-not-fits.false
+fitted c = is_fit c.args.h c.args.table c.args.n c.args.m (search rules) _ (c.fits.ensures ∙ ap (λ (z : Size). fitting z c.args.n c.args.m) c.size.ensures) c.if-not-fits.false
 
 pub returns-then-not-fits : goal.returns-then-not-fits
-returns-then-not-fits c = is_unfit c.args.h c.args.table c.args.n c.args.m (search rules) _ c.fits.ensures c.if-not-fits.true
+returns-then-not-fits c = is_unfit c.args.h c.args.table c.args.n c.args.m (search rules) _ (c.fits.ensures ∙ ap (λ (z : Size). fitting z c.args.n c.args.m) c.size.ensures) c.if-not-fits.true
 
 pub new-ring-requires : goal.new-ring-requires
 new-ring-requires c =

@@ -11,8 +11,8 @@ slice_bounds-fill-end c = lent_all _ _ _ _ (search rules) _ c.fits.ensures c.if-
 
 pub returns : goal.returns
 returns c =
-    open_fits _ _ _ _ (search rules) _ c.fits.ensures c.if-not-fits.false _ _ _ _ _ c.fresh-head.ensures (c.fill-2.ensures.after (λ y e. e))
-    c.unused.ensures (c.fill.ensures.after (λ y e. e))
+    open_fits _ _ _ _ (search rules) _ c.fits.ensures c.if-not-fits.false _ _ _ _ _ c.fresh-head.ensures (c.fill.ensures.after (λ y e. e))
+    c.unused.ensures (c.fill-2.ensures.after (λ y e. e))
 
 pub returns-then-not-fits : goal.returns-then-not-fits
 returns-then-not-fits c = open_unfit _ _ _ _ (search rules) _ c.fits.ensures _ c.if-not-fits.true
