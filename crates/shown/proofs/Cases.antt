@@ -1,5 +1,5 @@
 -- The cases of specs/Cases.antt, by computing.
-use mathlib.Core.Path.{refl}
+use Rattle.std.proofs.Common.{refl}
 use Rattle.schedule.specs.Bytes.{steps_from, steps_of, bytes_of_all}
 use Rattle.printing.specs.Text.{digits, decimal}
 use Rattle.shown.specs.Shown.{numbers_text, step_text, steps_text, cut_text, size_text, text}

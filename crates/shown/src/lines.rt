@@ -1,5 +1,5 @@
 // The lines of a schedule's text: a word, and numbers behind it.
-ghost use Rattle.std.specs.Prelude.{◌≡◌, ◌∷◌, ◌+◌, ◌≤◌, length};
+ghost use Rattle.std.specs.Prelude.{◌∷◌, length};
 ghost use Rattle.printing.specs.Text.{space, decimal};
 ghost use Rattle.printing.specs.Page.{HasRoom, Wrote};
 ghost use Rattle.schedule.specs.Messages.{step_of};
