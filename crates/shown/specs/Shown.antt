@@ -61,6 +61,12 @@ module _ (bs : List ℕ) where
 abbrev pub Shown : Type 0
 Shown = Result ℕ Unshown
 
+-- the player's word for it
+abbrev pub word_of : Unshown → String
+word_of Long = "LONG"
+word_of Header = "HEADER"
+word_of Unfit = "UNFIT"
+
 -- the numbers of a schedule that is played
 unfoldable pub played : List ℕ → Result Size Unshown
 played bs =

@@ -8,8 +8,8 @@
 mod lines;
 mod whole;
 
-ghost use Rattle.std.specs.Prelude.{◌≡◌};
-ghost use Rattle.shown.specs.Shown.{outcome, played};
+ghost use Rattle.std.specs.Prelude.{◌≡◌, Some, codes};
+ghost use Rattle.shown.specs.Shown.{outcome, played, word_of};
 
 use book::Size;
 use printing::Page;
@@ -30,12 +30,14 @@ pub enum Unshown {
 
 // The player's word for it.
 impl fmt::Display for Unshown {
+    ghost output = { λ why. Some (codes (word_of why)) };
+
     fn fmt<W: fmt::Write>(&self, f: &mut fmt::Formatter<W>) -> fmt::Result {
-        f.write_str(match *self {
-            Unshown::Long => "LONG",
-            Unshown::Header => "HEADER",
-            Unshown::Unfit => "UNFIT",
-        })
+        match *self {
+            Unshown::Long => f.write_str("LONG"),
+            Unshown::Header => f.write_str("HEADER"),
+            Unshown::Unfit => f.write_str("UNFIT"),
+        }
     }
 }
 

@@ -1,5 +1,5 @@
 // The lines of a schedule's text: a word, and numbers behind it.
-ghost use Rattle.std.specs.Prelude.{◌≡◌, ◌∷◌, ◌+◌, ◌≤◌, length};
+ghost use Rattle.std.specs.Prelude.{◌∷◌, length};
 ghost use Rattle.printing.specs.Text.{space, decimal};
 ghost use Rattle.printing.specs.Page.{HasRoom, Wrote};
 ghost use Rattle.schedule.specs.Messages.{step_of};
@@ -48,7 +48,8 @@ pub fn write_step(page: &mut Page<'_>, step: Message)
     }
 }
 
-// The line of a step that is cut short: its bytes.
+// The line of a step that is cut short: its bytes. It has its own loop: one for all that widens to a number would have
+// to be told, with each type, which number a value is.
 pub fn write_cut(page: &mut Page<'_>, bytes: &[u8])
     requires { HasRoom (length (line_text "bytes" bytes.now)) page.old }
     ensures { Wrote (line_text "bytes" bytes.now) page.old page.new }
