@@ -15,7 +15,8 @@ fn is_holding(d: Desk) -> bool
     matches!(d.stage, 2 | 3)
 }
 
-// Rule 3 of one desk; c is the record of its turn's block, read only if the turn is current.
+// Rule 3 of one desk; c is the record of its turn's block, read only if the turn is current. A stage is a number that a
+// portal lends, whatever it is.
 #[tactic(auto, unfolding(line::specs::Line::desk_of))]
 fn desk_rule(d: Desk, c: Block, ring: Ring, ne: u16) -> bool
     ensures { result ≡ (d.stage ≤ᵇ 3 && desk_obeys ring.nb ne ring.p c (desk_of d)) }
@@ -75,8 +76,8 @@ pub fn rule3(h: &Head, table: &[Block; 64], ring: Ring) -> bool
     !any_clash(&h.desks)
 }
 
-// The turn in which the desk has claimed or fetched; where it has not, a number that is no turn. An Option in its place
-// takes more than twice the time where blocks are counted: 2.1 us for 64 blocks, and not 0.8.
+// The turn in which the desk has claimed or fetched; where it has not, a number that is no turn. With an Option in its
+// place the check of a line of 64 x 64 took 1070 ns, and not 475.
 fn held_turn(d: Desk) -> u32
     ensures { result ≡ held_turn d }
 {

@@ -8,6 +8,7 @@ use engine::step::step;
 use std::io;
 use words::{Answer, word};
 
+// The codes of the two steps, as a portal sends them.
 const PUT: u8 = 0;
 
 const GET: u8 = 1;
