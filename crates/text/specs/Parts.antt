@@ -1,5 +1,7 @@
 -- What the functions behind `bytes_of` promise: the first line of a text, the numbers that were read, and what was written.
-use Rattle.std.specs.Prelude.{◌≡◌, List, ◌∷◌, ℕ, ◌+◌, ◌≤◌, ◌<◌, length, if◌then◌else◌, Result, Ok, Err}
+use Rattle.std.specs.Prelude.{◌≡◌, List, ◌∷◌, ℕ, ◌+◌, ◌≤◌, ◌<◌, length, if◌then◌else◌, Result, Ok, Err, Option, MatchOption}
+use Rattle.std.specs.Borrow.{Bor}
+use Rattle.text.specs.declared.pieces.Lines.{Lines}
 use Rattle.book.specs.Choice.{◌≡ᵇ◌}
 use Rattle.printing.specs.declared.Page.{Page}
 use Rattle.printing.specs.Page.{Wrote}
@@ -15,6 +17,10 @@ pub record FirstLine (t line rest : List ℕ) : Type 0 where
   pub splits : lines t ≡ raw ∷ lines rest
   pub shorter : length line + length rest ≤ length t
   pub less : length rest < length t
+
+-- what a step through the lines of a text gives: its first line, and the text behind it, which is left
+abbrev pub LineGiven : Lines → Option (Bor (List ℕ) × Bor (List ℕ)) → Lines → Type 0
+LineGiven s r t = MatchOption r (length s.0.now ≡ 0) (λ x. FirstLine s.0.now x.0.now x.1.now × (t.0.now ≡ x.1.now))
 
 -- one number more than was read
 abbrev pub more : Args → ℕ → Args

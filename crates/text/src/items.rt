@@ -1,5 +1,5 @@
 // What a line asks for: the form that its first word has, its numbers, and the item that they make.
-ghost use Rattle.std.specs.Prelude.{◌≡◌, ◌+◌, ◌<◌, length, is_some};
+ghost use Rattle.std.specs.Prelude.{◌≡◌, ◌+◌, ◌^◌, ◌<◌, is_some};
 ghost use Rattle.std.specs.Option.{option_map};
 ghost use Rattle.std.specs.List.{list_all};
 ghost use Rattle.text.specs.Pieces.{words, numbers, byte};
@@ -103,7 +103,7 @@ fn form_of(word: &[u8]) -> Option<Form>
 impl Args {
     // One number more.
     fn with(self, n: u32) -> Args
-        requires { self.count + 1 < 18446744073709551616 }
+        requires { self.count + 1 < 2 ^ 64 }
         ensures { result ≡ more self n }
     {
         let Args { count, a, b, c } = self;

@@ -6,7 +6,7 @@ ghost use Rattle.text.specs.Meaning.{section, going};
 ghost use Rattle.text.specs.Parts.{Filled};
 
 use crate::items::{Item, item_of};
-use crate::pieces::first_line;
+use crate::pieces::Lines;
 use crate::wanted::{Bad, Wanted};
 use crate::writing::{size_of, write_item};
 use printing::Page;
@@ -17,16 +17,13 @@ fn section_of(text: &[u8]) -> usize
     ensures { result ≡ section (lines text.now) }
 {
     let mut total = 0;
-    let mut rest = text;
-    while !rest.is_empty() {
-        let (line, behind) = first_line(rest);
+    for (line, _) in Lines(text) {
         if let Ok(item) = item_of(line) {
             match item {
                 Item::Named => return total,
                 _ => total += size_of(line, item),
             }
         }
-        rest = behind;
     }
     total
 }
@@ -47,10 +44,8 @@ pub fn fill(page: &mut Page<'_>, text: &[u8]) -> Result<(), Bad>
     requires { (length text.now ≤ 262144) × (page.old.len ≡ 0) × (length page.old.room.now ≡ 262144) }
     ensures { Filled (going 1 [] (lines text.now)) page.old result page.new }
 {
-    let mut number = 1;
-    let mut rest = text;
-    while !rest.is_empty() {
-        let (line, behind) = first_line(rest);
+    for (i, (line, behind)) in Lines(text).enumerate() {
+        let number = i + 1;
         let item = match item_of(line) {
             Ok(item) => item,
             Err(wanted) => return Err(Bad::Line(number, wanted)),
@@ -60,8 +55,6 @@ pub fn fill(page: &mut Page<'_>, text: &[u8]) -> Result<(), Bad>
         }
         let k = length_said(item, behind);
         write_item(page, line, k, item);
-        rest = behind;
-        number += 1;
     }
     Ok(())
 }

@@ -1,8 +1,8 @@
 // The pieces of a text: lines, words and numbers. Their meaning stands in specs/Pieces.antt.
 ghost use Rattle.std.specs.Prelude.{◌≡◌, ◌<◌, length};
-ghost use Rattle.std.specs.Iterator.{YieldsFirstRef, item_count};
+ghost use Rattle.std.specs.Iterator.{YieldsFirstRef, at_most, item_count};
 ghost use Rattle.text.specs.Pieces.{bare, is_blank, skip, word, behind, words, number, byte};
-ghost use Rattle.text.specs.Parts.{FirstLine};
+ghost use Rattle.text.specs.Parts.{FirstLine, LineGiven};
 
 // A line without a carriage return at its end.
 #[tactic(auto, unfolding(crate::specs::Pieces::bare_length))]
@@ -16,7 +16,7 @@ fn bare(line: &[u8]) -> &[u8]
 }
 
 // The first line of a text, and what stands behind it.
-pub fn first_line(text: &[u8]) -> (&[u8], &[u8])
+fn first_line(text: &[u8]) -> (&[u8], &[u8])
     requires { 0 < length text.now }
     ensures { FirstLine text.now result.0.now result.1.now }
 {
@@ -27,6 +27,27 @@ pub fn first_line(text: &[u8]) -> (&[u8], &[u8])
         [] => rest,
     };
     (bare(line), behind)
+}
+
+// The lines of a text, each with the text behind it.
+#[derive(Clone, Copy)]
+pub struct Lines<'a>(pub &'a [u8]);
+
+impl<'a> Iterator for Lines<'a> {
+    type Item = (&'a [u8], &'a [u8]);
+
+    ghost next_gives = { LineGiven };
+
+    ghost remaining = { λ s. at_most (length s.0.now) };
+
+    fn next(&mut self) -> Option<(&'a [u8], &'a [u8])> {
+        if self.0.is_empty() {
+            return None;
+        }
+        let (line, behind) = first_line(self.0);
+        self.0 = behind;
+        Some((line, behind))
+    }
 }
 
 fn is_blank(b: u8) -> bool

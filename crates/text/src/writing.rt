@@ -47,7 +47,7 @@ fn write_name(page: &mut Page<'_>, name: &[u8], k: usize)
     page.bytes(&k.to_be_bytes()[4..]);
 }
 
-// How many bytes an item has.
+// How many bytes an item has: at most 9 for each of 2^32 steps, or those of its line and 5.
 pub fn size_of(line: &[u8], item: Item) -> usize
     ensures is { result ≡ length (said line.now 0 item) }
     ensures most { result ≤ 38654705664 + length line.now }

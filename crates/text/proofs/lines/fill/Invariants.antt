@@ -1,14 +1,11 @@
 -- The bytes of the lines passed are written, and the lines left decide.
 use Rattle.std.proofs.Common.{◌≡◌, ◌+◌, ◌≤◌, length}
+use Rattle.std.specs.Iterator.Adapters.{enumerate_source, enumerate_count}
 use Rattle.text.proofs.Whole.{Going}
 use Rattle.text.proofs.lines.fill.Given as goal
 
-abbrev pub invariant-loop-rest : goal.invariant-loop-rest
-invariant-loop-rest l = record {
-  numbered : l.number + length l.rest ≤ length l.text + 1;
-  room : length l.page.room.now ≡ 262144;
-  going : Going l.text l.initial.page l.number l.rest l.page;
-}
-
-abbrev pub decreases-loop-rest : goal.decreases-loop-rest
-decreases-loop-rest l = length l.rest
+abbrev pub invariant-loop-i : goal.invariant-loop-i
+invariant-loop-i l =
+    (goal.iterator-loop-i).can_next l.i-iterator × (goal.iterator-loop-i).is_finite l.i-iterator
+    × (length l.page.room.now ≡ 262144) × (length (enumerate_source l.i-iterator).0.now ≤ length l.text)
+    × Going l.text l.initial.page (enumerate_count l.i-iterator + 1) (enumerate_source l.i-iterator).0.now l.page

@@ -4,11 +4,8 @@ use Rattle.text.specs.Pieces.{lines}
 use Rattle.text.specs.Meaning.{section}
 use Rattle.text.proofs.lines.section_of.Given as goal
 
-abbrev pub invariant-loop-rest : goal.invariant-loop-rest
-invariant-loop-rest l = record {
-  few : l.total + 38654705665 * length l.rest ≤ 38654705665 * length l.text;
-  counted : l.total + section (lines l.rest) ≡ section (lines l.text);
-}
-
-abbrev pub decreases-loop-rest : goal.decreases-loop-rest
-decreases-loop-rest l = length l.rest
+abbrev pub invariant-loop-line : goal.invariant-loop-line
+invariant-loop-line l =
+    (goal.iterator-loop-line).can_next l.line-iterator × (goal.iterator-loop-line).is_finite l.line-iterator
+    × (l.total + 38654705665 * length l.line-iterator.0.now ≤ 38654705665 * length l.text)
+    × (l.total + section (lines l.line-iterator.0.now) ≡ section (lines l.text))
