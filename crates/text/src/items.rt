@@ -28,7 +28,7 @@ pub enum Form {
     Name,
 }
 
-// How many numbers a line has, and the first three.
+// How many numbers a line has, and the first three, which is all that any item takes: nothing is allocated for the others.
 #[derive(Clone, Copy, Debug, PartialEq, Eq)]
 pub struct Args {
     pub count: usize,
