@@ -25,6 +25,13 @@ pub fn block_after(block: usize, nb: u32) -> usize
     if next < nb as usize { next } else { 0 }
 }
 
+// A turn is its block's current one if it is among the last NB turns up to P. Any numbers may be asked.
+pub fn is_current(nb: u32, p: u32, turn: u32) -> bool
+    ensures { result ≡ is_recent nb p turn }
+{
+    turn <= p && p - turn < nb
+}
+
 // The NB blocks, and the one of them in which turn P stands.
 #[derive(Clone, Copy, Debug, PartialEq, Eq)]
 pub struct Ring {
@@ -48,11 +55,10 @@ impl Ring {
         }
     }
 
-    // A turn is its block's current one if it is among the last NB turns up to P.
     pub fn is_current(self, turn: u32) -> bool
         ensures { result ≡ is_recent self.nb self.p turn }
     {
-        turn <= self.p && self.p - turn < self.nb
+        is_current(self.nb, self.p, turn)
     }
 
     // The block that stands `steps` blocks back from block `last`.

@@ -84,7 +84,8 @@ fn held_turn(d: Desk) -> u32
     if is_holding(d) { d.turn } else { 4294967295 }
 }
 
-// The turn in which each desk has claimed or fetched, made once: the blocks are then asked over plain numbers.
+// The turn in which each desk has claimed or fetched, made once: the blocks are then asked over plain numbers. The array's
+// `map` proves too, and takes a quarter more time in the check.
 pub fn held_turns(desks: &[Desk; 16]) -> [u32; 16]
     ensures { result ≡ map held_turn desks.now }
 {
