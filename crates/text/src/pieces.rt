@@ -41,10 +41,11 @@ impl<'a> Iterator for Lines<'a> {
     ghost remaining = { λ s. at_most (length s.0.now) };
 
     fn next(&mut self) -> Option<(&'a [u8], &'a [u8])> {
-        if self.0.is_empty() {
+        let text = self.0;
+        if text.is_empty() {
             return None;
         }
-        let (line, behind) = first_line(self.0);
+        let (line, behind) = first_line(text);
         self.0 = behind;
         Some((line, behind))
     }

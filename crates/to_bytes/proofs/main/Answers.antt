@@ -1,6 +1,5 @@
 -- The bytes lie within their room.
-use Rattle.std.proofs.Common.{sym}
-use lib.Seq.{length-take-le}
+use Rattle.std.proofs.Common.{sym, length-take-le}
 use Rattle.text.proofs.Whole.{made_room}
 use Rattle.to_bytes.proofs.main.Goals as goal
 
