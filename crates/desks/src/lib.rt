@@ -4,7 +4,8 @@
 //
 // A step reads one desk and one record, and changes no other. The parts take the ring of blocks, K, the desk and the
 // record, and promise what the definitions of the line say of them: `admitted`, `lookable`, `wins`, and what each step
-// leaves, `look_of`, `claim_of`, `fetch_of`, `finish_of`. The grid of stages and steps stands in `grid`.
+// leaves, `look_of`, `claim_of`, `fetch_of`, `finish_of`. K goes beside the ring, since where turns stand does not ask it. The
+// grid of stages and steps stands in `grid`.
 mod grid;
 
 ghost use Rattle.std.specs.Prelude.{◌≡◌, not, ℕ, ◌%◌, ◌≤◌, ◌<◌};

@@ -65,7 +65,7 @@ pub fn order(
     perform(h, table, n, entries, Deed::Order(a, b))
 }
 
-// A step: a code and two numbers.
+// A step: a code and two numbers, one by one as they cross the C interface.
 #[tactic(auto, unfolding(line::specs::Calls::step))]
 pub fn step(
     h: Head,

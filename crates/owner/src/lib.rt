@@ -2,7 +2,7 @@
 
 // The owner's steps by value, on a line that the check has found sound: put, order and get.
 //
-// Only these three change the head and the table. Their parts read the head and records, and promise what the
+// Of this crate only these three change the head and the table. Their parts read the head and records, and promise what the
 // definitions of the line say of them: `may_put` and `may_start` whether a label may be put, `room_for` where it
 // goes, `moves_on` whether a get moves on.
 ghost use Rattle.std.specs.Prelude.{◌≡◌, get_or, ◌+◌, ◌-◌, ◌*◌, ◌%◌, ◌≤◌, ◌<◌};

@@ -111,7 +111,7 @@ pub fn order(
     )
 }
 
-// Is the line sound? Nothing is changed.
+// Is the line sound? Nothing is changed. One line, as the survey's below: `lend` is for calls that give something back.
 pub fn check(head: &Head, table: &[Block], entries: &[u32]) -> Result<(), Fault>
     ensures { Checks (lent head.now table.now entries.now) result }
 {

@@ -3,7 +3,8 @@
 // Printed lines: a number, a word and a value in decimal, with a space between, and a newline.
 //
 // A `Page` takes what is written, piece behind piece, into a room that its caller lends. What a line is stands in
-// specs/Text.antt, and what a piece leaves of a page in specs/Page.antt.
+// specs/Text.antt, and what a piece leaves of a page in specs/Page.antt. The room has a fixed size, and nothing is allocated.
+// A line is no `write!`: that promises its text only where it answers Ok, and the player's text is promised unconditionally.
 ghost use Rattle.std.specs.Prelude.{◌≡◌, ◌∷◌, [], ◌+◌, ◌≤◌, ◌<◌, length};
 ghost use Rattle.printing.specs.Text.{decimal, line_text, answer_text, numbers_below};
 ghost use Rattle.printing.specs.Writes.{letters_most, line_most};

@@ -8,7 +8,8 @@
 ghost use Rattle.std.specs.Prelude.{◌≡◌, true, ◌+◌, ◌-◌, ◌%◌, ◌≤◌, ◌<◌};
 ghost use Rattle.line.specs.Tests.{is_recent};
 
-// The block in which a turn stands.
+// The block in which a turn stands. It is asked of a head's numbers, which are any until the check has passed them: so the
+// bounds of NB are a clause here, and a Ring's invariant where one is at hand.
 pub fn block_of(turn: u32, nb: u32) -> usize
     requires { (1 ≤ nb) × (nb ≤ 64) }
     ensures { (result ≡ turn % nb) × (result < 64) }
@@ -73,7 +74,7 @@ impl Ring {
         }
     }
 
-    // The block of a current turn. No record is read for any other: block 0 stands for it.
+    // The block of a current turn. No record is read for any other: block 0 stands for it, so that there is one to index by.
     pub fn current_block(self, turn: u32) -> usize
         ensures { (result < self.nb) × (is_recent self.nb self.p turn ≡ true → result ≡ turn % self.nb) }
     {

@@ -37,7 +37,8 @@ fn clash(a: Desk, b: Desk) -> bool
     is_holding(a) & is_holding(b) & (b.turn == a.turn) & (b.place == a.place)
 }
 
-// The last test of rule 3 stops at the first pair of desks that hold one place.
+// The last test of rule 3 stops at the first pair of desks that hold one place: two loops over desks, left by a label, as
+// the customer asked.
 fn any_clash(desks: &[Desk; 16]) -> bool
     ensures { no_clash desks.now ≡ not result }
 {

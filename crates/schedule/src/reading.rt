@@ -56,6 +56,8 @@ pub fn step_at(input: &[u8], at: usize) -> Message
     }
 }
 
+// That the header is there stays a clause of the three below: docs/PROMISES.md names two of them with it.
+
 // The nine bytes of each whole step, one step after the other. Their remainder is the bytes of a step cut short.
 pub fn steps(input: &[u8]) -> ChunksExact<'_, u8>
     requires { header_bytes ≤ length input.now }

@@ -1,8 +1,8 @@
 #![tactic(auto)]
 
-// The block table, as the portal lends it: a slice of records in block order. `count`, `record_at` and `replace` are
-// the thin functions that read or replace a record; `load` and `store` go over the table with them, between the lent
-// slice and the table of 64 records that the engine takes by value.
+// The block table, as the portal lends it: a slice of records in block order. `record_at` and `replace` are the thin
+// functions that read or replace one record, as the customer asked; `load` and `store` go over the table with them, record by
+// record, between the lent slice and the table of 64 records that the engine takes by value. `count` is how many are lent.
 ghost use Rattle.std.specs.Prelude.{◌≡◌, ◌<◌, length, set, get_or};
 ghost use Rattle.line.specs.Line.{unused};
 ghost use Rattle.table.specs.Laid.{loaded, stored};

@@ -3,7 +3,7 @@ ghost use Rattle.std.specs.Prelude.{◌≡◌, ◌+◌, ◌^◌, ◌<◌, is_som
 ghost use Rattle.std.specs.Option.{option_map};
 ghost use Rattle.std.specs.List.{list_all};
 ghost use Rattle.text.specs.Pieces.{words, numbers, byte};
-ghost use Rattle.text.specs.Items.{plain, adding, form_of, IsByteCode, HasByteCode, args_of, step_item, size_item, bytes_item, times_item, name_of, name_item, item, is_named};
+ghost use Rattle.text.specs.Items.{form_of, IsByteCode, HasByteCode, args_of, step_item, size_item, bytes_item, times_item, name_of, name_item, item, is_named};
 ghost use Rattle.text.specs.Parts.{more};
 
 use crate::pieces::{Words, byte_of, count_words, first_word, number_of, skip_blanks};
@@ -55,23 +55,12 @@ pub enum Item {
     Named,
 }
 
-fn plain(code: u8, follow: u8, wanted: Wanted) -> Option<Form>
-    ensures { result ≡ plain code follow wanted }
+fn step_form(code: u8, adding: Option<u8>, follow: u8, wanted: Wanted) -> Option<Form>
+    ensures { result ≡ Some (Form.Step (record { code = code; adding = adding; follow = follow; wanted = wanted })) }
 {
     Some(Form::Step(StepForm {
         code,
-        adding: None,
-        follow,
-        wanted,
-    }))
-}
-
-fn adding(code: u8, most: u8, follow: u8, wanted: Wanted) -> Option<Form>
-    ensures { result ≡ adding code most follow wanted }
-{
-    Some(Form::Step(StepForm {
-        code,
-        adding: Some(most),
+        adding,
         follow,
         wanted,
     }))
@@ -84,14 +73,14 @@ fn form_of(word: &[u8]) -> Option<Form>
     ensures fits { HasByteCode result }
 {
     match word {
-        b"put" => plain(0, 1, Wanted::Put),
-        b"get" => plain(1, 0, Wanted::Get),
-        b"order" => plain(2, 2, Wanted::Order),
-        b"claim" => adding(16, 15, 0, Wanted::Claim),
-        b"fetch" => adding(32, 15, 0, Wanted::Fetch),
-        b"finish" => adding(48, 15, 0, Wanted::Finish),
-        b"look" => adding(64, 15, 1, Wanted::Look),
-        b"step" => adding(0, 255, 2, Wanted::Step),
+        b"put" => step_form(0, None, 1, Wanted::Put),
+        b"get" => step_form(1, None, 0, Wanted::Get),
+        b"order" => step_form(2, None, 2, Wanted::Order),
+        b"claim" => step_form(16, Some(15), 0, Wanted::Claim),
+        b"fetch" => step_form(32, Some(15), 0, Wanted::Fetch),
+        b"finish" => step_form(48, Some(15), 0, Wanted::Finish),
+        b"look" => step_form(64, Some(15), 1, Wanted::Look),
+        b"step" => step_form(0, Some(255), 2, Wanted::Step),
         b"size" => Some(Form::Size),
         b"bytes" => Some(Form::Bytes),
         b"times" => Some(Form::Times),
@@ -215,7 +204,7 @@ fn name_item(line: &[u8]) -> Result<Item, Wanted>
     Ok(Item::Named)
 }
 
-// What a line asks for.
+// What a line asks for. A match on a closed enum, whose arms read different things: a closure is no plainer.
 #[tactic(auto, unfolding(crate::specs::Items::item))]
 pub fn item_of(line: &[u8]) -> Result<Item, Wanted>
     ensures { result ≡ item line.now }

@@ -11,7 +11,8 @@ use crate::wanted::{Bad, Wanted};
 use crate::writing::{size_of, write_item};
 use printing::Page;
 
-// How many bytes the lines of a text have, up to the next name.
+// How many bytes the lines of a text have, up to the next name. The text's length bounds the sum: a clause here and where it
+// is asked for, since a type for it would be made of the text that `bytes_of` has just measured, and taken apart at once.
 fn section_of(text: &[u8]) -> usize
     requires { length text.now ≤ 262144 }
     ensures { result ≡ section (lines text.now) }

@@ -106,7 +106,7 @@ pub fn count_words(line: &[u8]) -> usize
     Words(line).count()
 }
 
-// The number that a word says.
+// The number that a word says: digits alone, where std's `parse` takes a plus sign too.
 pub fn number_of(word: &[u8]) -> Option<u32>
     ensures { result ≡ number word.now }
 {

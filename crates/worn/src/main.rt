@@ -8,14 +8,16 @@ use engine::step::step;
 use std::io;
 use words::{Answer, word};
 
-// The codes of the two steps, as a portal sends them.
-const PUT: u8 = 0;
-
-const GET: u8 = 1;
+// The codes of the two steps.
+#[derive(Clone, Copy, Debug, PartialEq, Eq)]
+enum Code {
+    Put = 0,
+    Get = 1,
+}
 
 const MOST: u32 = 200000;
 
-// What the line came to: the labels placed, and the first put's answer that was no PUT.
+// What the line came to: the labels placed, and the last put's answer.
 #[derive(Clone, Copy, Debug, PartialEq, Eq)]
 struct Worn {
     placed: u32,
@@ -36,12 +38,12 @@ fn wear() -> Worn {
     let mut table = opened.table;
     let mut last = Answer::Done;
     for placed in 0..MOST {
-        let put = step(head, table, 2, &mut entries, PUT, placed, 0);
+        let put = step(head, table, 2, &mut entries, Code::Put as u8, placed, 0);
         last = put.answer;
         if !matches!(last, Answer::Put(_)) {
             return Worn { placed, last };
         }
-        let got = step(put.head, put.table, 2, &mut entries, GET, 0, 0);
+        let got = step(put.head, put.table, 2, &mut entries, Code::Get as u8, 0, 0);
         head = got.head;
         table = got.table;
     }
