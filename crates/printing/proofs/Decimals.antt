@@ -2,8 +2,6 @@
 -- digits are digits, they read back as the number, there is no zero in front, and a bound on the number bounds them.
 use Rattle.std.proofs.Common.{◌≡◌, ℕ, zero, suc, ◌/◌, ◌%◌, ◌^◌, ◌<◌, ◌≤◌, ltb, List, [], ◌∷◌, ◌++◌, length, sym, refl, ap, ◌∙◌, pow-suc, arith, ltb→lt, nltb→le, length-append, le-ltb, lt-ltb}
 use Rattle.book.proofs.Choice.{cases}
-use Rattle.std.specs.Fmt.{decimal as printed}
-use Rattle.std.proofs.lemmas.Fmt.{decimal_by_steps}
 use Rattle.printing.specs.Text.{digit, digits, decimal}
 
 -- ---- any bound serves
@@ -56,12 +54,3 @@ decimal_short (suc k) n h =
     cases (ltb n 10)
     (λ t. let e = decimal_one n (ltb→lt n 10 t) in omega arith)
     (λ t. let e = decimal_longer n (nltb→le n 10 t) in let m = more (omega arith) in omega arith)
-
--- ---- what the library prints of a number
-
-pub as_printed : (n : ℕ) → n < 2 ^ 64 → printed n ≡ decimal n
-as_printed n h =
-    decimal_by_steps (λ m ds. ds ≡ decimal m)
-    (λ m small. sym (decimal_digit m small))
-    (λ m ds big e. ap (λ (l : List ℕ). l ++ (digit (m % 10) ∷ [])) e ∙ sym (decimal_more m big))
-    n h

@@ -1,5 +1,5 @@
 -- A printed line, part by part: a line takes 25 bytes at most, and no word of an answer has more than eight letters.
-use Rattle.std.proofs.Common.{ℕ, ◌+◌, ◌^◌, ◌<◌, ◌≤◌, List, [], ◌∷◌, ◌++◌, length, arith, lit≤, length-append}
+use Rattle.std.proofs.Common.{◌≡◌, ℕ, ◌+◌, ◌/◌, ◌%◌, ◌^◌, ◌<◌, ◌≤◌, List, [], ◌∷◌, ◌++◌, length, arith, lit≤, length-append}
 use Rattle.words.specs.declared.Refusal.{Refusal}
 use Rattle.words.specs.declared.Refusal.TheVariants.{Unfit, Damaged, Badstep, Nodesk, Noblock, Stage, Owned, Nothing, Lost, Notlabel, Range, Worn, Full, Busy, Empty}
 use Rattle.words.specs.declared.Answer.{Answer}
@@ -9,7 +9,24 @@ use Rattle.printing.specs.Text.{space, newline, decimal, line_text, numbers_belo
 use Rattle.printing.specs.Writes.{letters_most, line_most}
 use Rattle.printing.specs.Page.{Page, HasRoom, Wrote}
 use Rattle.printing.proofs.Stores.{wrote_more, wrote_left, wrote_most}
-use Rattle.printing.proofs.Decimals.{decimal_short}
+use Rattle.printing.proofs.Decimals.{decimal_digit, decimal_more, decimal_one, decimal_longer, decimal_short}
+
+-- ---- a number: its only digit, or its last one behind those of its tenth
+
+pub one_digit : (n d : ℕ) (p q : Page) → n < 10 → Wrote (d ∷ []) p q → d ≡ 48 + n → Wrote (decimal n) p q
+one_digit n d p q h w e = rw (decimal_digit n h, ← e) w
+
+pub digit_behind : (n d : ℕ) (p a q : Page) → 10 ≤ n → Wrote (decimal (n / 10)) p a → Wrote (d ∷ []) a q → d ≡ 48 + n % 10 → Wrote (decimal n) p q
+digit_behind n d p a q h w v e = rw (decimal_more n h, ← e) (wrote_more (decimal (n / 10)) (d ∷ []) p a q w v)
+
+pub digit_room : (n : ℕ) (p : Page) → n < 10 → HasRoom (length (decimal n)) p → HasRoom 1 p
+digit_room n p h room = let e = decimal_one n h in omega arith
+
+pub tenth_room : (n : ℕ) (p : Page) → 10 ≤ n → HasRoom (length (decimal n)) p → HasRoom (length (decimal (n / 10))) p
+tenth_room n p h room = let e = decimal_longer n h in omega arith
+
+pub behind_tenth : (n : ℕ) (p q : Page) → 10 ≤ n → HasRoom (length (decimal n)) p → Wrote (decimal (n / 10)) p q → HasRoom 1 q
+behind_tenth n p q h room w = let e = decimal_longer n h in wrote_left (length (decimal (n / 10))) 1 (decimal (n / 10)) p q (omega arith) (omega arith) w
 
 -- ---- the room that is left behind each piece of a line: a number of four digits, a word of eight letters, a value of ten
 

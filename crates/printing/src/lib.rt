@@ -10,7 +10,6 @@ ghost use Rattle.printing.specs.Text.{decimal, line_text, answer_text, numbers_b
 ghost use Rattle.printing.specs.Writes.{letters_most, line_most};
 ghost use Rattle.printing.specs.Page.{Blank, HasRoom, Wrote};
 
-use itoa::Buffer;
 use words::{Answer, value, word};
 
 // The longest line, in bytes: a number of four digits, a word of eight letters, a value of ten digits, two
@@ -57,14 +56,19 @@ impl<'a> Page<'a> {
         self.bytes(text.as_bytes());
     }
 
-    // A number in decimal.
-    #[tactic(auto, using(crate::proofs::Decimals::as_printed))]
+    // A number in decimal: the digits above the last one first.
+    #[tactic(auto, using(crate::proofs::Lines::digit_room, crate::proofs::Lines::one_digit, crate::proofs::Lines::tenth_room, crate::proofs::Lines::behind_tenth, crate::proofs::Lines::digit_behind))]
     pub fn number(&mut self, n: u32)
         requires { HasRoom (length (decimal n)) self.old }
         ensures { Wrote (decimal n) self.old self.new }
     {
-        let mut digits = Buffer::new();
-        self.text(digits.format(n));
+        let single = n < 10;
+        if single {
+            self.byte(b'0' + n as u8);
+            return;
+        }
+        self.number(n / 10);
+        self.byte(b'0' + (n % 10) as u8);
     }
 
     // A line: number, word and value, with a space between, and a newline.
