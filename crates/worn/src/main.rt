@@ -8,7 +8,7 @@ use engine::step::step;
 use std::io;
 use words::{Answer, word};
 
-// The codes of the two steps.
+// The codes of the two steps. The benchmark has them among its own: the two programs stand on no crate that could share them.
 #[derive(Clone, Copy, Debug, PartialEq, Eq)]
 enum Code {
     Put = 0,
