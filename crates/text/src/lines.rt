@@ -29,7 +29,8 @@ fn section_of(text: &[u8]) -> usize
     total
 }
 
-// The length that an item says: a name's is that of the schedule behind it.
+// The length that an item says: a name's is that of the schedule behind it. Any other says none, and its 0 is not written: an
+// Option would be opened again at the name that is known to have one.
 fn length_said(item: Item, behind: &[u8]) -> usize
     requires { length behind.now ≤ 262144 }
     ensures { item ≡ Named → result ≡ section (lines behind.now) }

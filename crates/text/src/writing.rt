@@ -9,6 +9,7 @@ use crate::items::{Item, name_of};
 use crate::pieces::{Words, byte_of, count_words, first_word};
 use printing::Page;
 
+// The three numbers are an item's own fields, taken apart by the match that comes here: a struct would hold what Item holds.
 fn write_step(page: &mut Page<'_>, code: u8, a: u32, b: u32)
     requires { HasRoom 9 page.old }
     ensures { Wrote (step_bytes code a b) page.old page.new }
