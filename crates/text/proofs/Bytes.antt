@@ -1,5 +1,7 @@
 -- The bytes of a line: how many there are, and which parts they have.
-use Rattle.std.proofs.Common.{◌≡◌, refl, sym, ap, subst, ◌∙◌, List, [], ◌∷◌, ◌++◌, append-nil, append_assoc, take, drop, ℕ, zero, suc, ◌+◌, ◌*◌, ◌≤◌, length, length-append, arith}
+use Rattle.std.proofs.Common.{◌≡◌, refl, sym, ap, subst, ◌∙◌, List, [], ◌∷◌, ◌++◌, append-nil, append_assoc, take, drop, ℕ, zero, suc, ◌+◌, ◌*◌, ◌≤◌, length, length-append, arith, get_or, length-take-le, ◌<◌}
+use Rattle.std.proofs.lemmas.List.{take_more}
+use Rattle.std.proofs.Math.Seq.{take-length}
 use Rattle.std.proofs.lemmas.List.{length-map}
 use Rattle.std.specs.Int.{to_be_bytes, w64}
 use Rattle.std.specs.Option.{unwrap_or}
@@ -42,8 +44,19 @@ repeats_room n m xs p q h l room w = let k = repeat_long n xs h in wrote_left (n
 
 -- ---- a name, a newline, and four bytes of a number of eight
 
-pub mark_room : (name : List ℕ) (p q : Page) → HasRoom (length name + 5) p → Wrote name p q → HasRoom 5 q
-mark_room name p q room w = wrote_left (length name) 5 name p q (omega arith) room w
+-- the name's bytes up to place i
+module _ (name : List ℕ) (i : ℕ) (p q : Page) (w : Wrote (take i name) p q) where
+  pub letter_room : HasRoom (length name + 5) p → i < length name → HasRoom 1 q
+  letter_room room h = let e = length-take-le i name (omega arith) in wrote_left i 1 (take i name) p q (omega arith) (omega arith) w
+
+  pub letter_wrote : (r : Page) → i < length name → Wrote (get_or name i 0 ∷ []) q r → Wrote (take (i + 1) name) p r
+  letter_wrote r h v = rw (take_more name i 0 h) (wrote_more (take i name) _ p q r w v)
+
+  pub letters_wrote : length name ≡ i → Wrote name p q
+  letters_wrote e = subst (λ (xs : List ℕ). Wrote xs p q) (ap (λ (n : ℕ). take n name) (sym e) ∙ take-length name) w
+
+  pub mark_room : length name ≡ i → HasRoom (length name + 5) p → HasRoom 5 q
+  mark_room e room = wrote_left (length name) 5 name p q (omega arith) room (letters_wrote e)
 
 pub length_room : (p q : Page) → HasRoom 5 p → Wrote (10 ∷ []) p q → HasRoom 4 q
 length_room p q room w = wrote_left 1 4 (10 ∷ []) p q (omega arith) room w

@@ -6,7 +6,7 @@ ghost use Rattle.text.specs.Pieces.{words, numbers, byte};
 ghost use Rattle.text.specs.Items.{form_of, IsByteCode, HasByteCode, args_of, step_item, size_item, bytes_item, times_item, name_of, name_item, item, is_named};
 ghost use Rattle.text.specs.Parts.{more};
 
-use crate::pieces::{Words, byte_of, count_words, first_word, number_of, skip_blanks};
+use crate::pieces::{Words, byte_of, first_word, number_of, skip_blanks};
 use crate::wanted::Wanted;
 
 // A step's word: its code; the most that a number in front of the others may be, which is added to the code, if there
@@ -161,10 +161,11 @@ fn all_bytes(line: &[u8]) -> bool
     Words(line).all(|word| byte_of(word).is_some())
 }
 
+// One word or more, each a byte. That there is a word is asked of the first: counting them would read the line once more.
 fn bytes_item(line: &[u8]) -> Result<Item, Wanted>
     ensures { result ≡ bytes_item (words line.now) }
 {
-    if count_words(line) > 0 && all_bytes(line) {
+    if Words(line).next().is_some() && all_bytes(line) {
         Ok(Item::Numbers)
     } else {
         Err(Wanted::Bytes)

@@ -38,12 +38,15 @@ fn write_numbers(page: &mut Page<'_>, line: &[u8])
     }
 }
 
-// A name, a newline, and the length of its schedule in four bytes.
+// A name, a newline, and the length of its schedule in four bytes. The name goes byte by byte: `bytes` asks whether room and
+// name overlap, and where a room's place is asked for, it is set to zeros even in a call whose bytes nobody reads.
 fn write_name(page: &mut Page<'_>, name: &[u8], k: usize)
     requires { HasRoom (length name.now + 5) page.old }
     ensures { Wrote (name.now ++ (10 ∷ four k)) page.old page.new }
 {
-    page.bytes(name);
+    for b in name {
+        page.byte(*b);
+    }
     page.byte(b'\n');
     page.bytes(&k.to_be_bytes()[4..]);
 }
